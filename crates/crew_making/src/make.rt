@@ -7,7 +7,7 @@ ghost use Rattle.loglet_api.specs.View.{IsFresh};
 ghost use Rattle.loglet_api.specs.Sound.{IsSound};
 ghost use Rattle.register_api.specs.View as view;
 ghost use Rattle.node_lines.specs.Workers.{Sends};
-ghost use Rattle.run_course.specs.Script.{AreLines};
+ghost use Rattle.node_course.specs.Script.{AreLines};
 ghost use Rattle.node_crew.specs.Crews.{CrewRests, CrewStands};
 ghost use Rattle.crew_making.specs.Apart.{AreAsTold};
 ghost use Rattle.replica_api.specs.Fresh.{IsFreshReplica};

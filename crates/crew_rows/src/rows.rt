@@ -10,7 +10,7 @@ ghost use Rattle.fitting_run.specs.Outcomes.{names};
 ghost use Rattle.node_lines.specs.declared.desk.Desk.{Desk};
 ghost use Rattle.node_lines.specs.declared.lines.Looked.{Looked};
 ghost use Rattle.node_lines.specs.declared.lines.Looked.TheVariants as looked;
-ghost use Rattle.run_course.specs.Desks.{IsOfNode};
+ghost use Rattle.node_course.specs.Desks.{IsOfNode};
 ghost use Rattle.run_ends.specs.Ends.{desk_in, desks_at};
 ghost use Rattle.run_ends.specs.Rows.{AreRows, CanTell, IsOfTable, IsRowOf, Tells, TellsIt, desk_for, is_behind};
 

@@ -2,4 +2,3 @@ pub mod Registering
 pub mod Telling
 pub mod Seeing
 pub mod Running
-pub mod Lone

@@ -30,9 +30,9 @@ use Rattle.fitting_run.specs.Faults.{disk_faults}
 use Rattle.fitting_run.specs.Yard.{Shown}
 use Rattle.fitting_run.specs.declared.told.Told.{Told}
 use Rattle.run_laws.specs.Ended.{IsAtHome, session_in}
-use Rattle.run_course.specs.Script.{AreLines, logs_at, asked_by}
-use Rattle.run_course.specs.Workers.{CanSend}
-use Rattle.run_course.proofs.Lines.{at_get, rank_is}
+use Rattle.node_course.specs.Script.{AreLines, logs_at, asked_by}
+use Rattle.node_course.specs.Workers.{CanSend}
+use Rattle.node_course.proofs.Lines.{at_get, rank_is}
 use Rattle.node_crew.specs.Turns.{MaySendAll}
 use Rattle.run_ends.specs.Rules.{may_of}
 use Rattle.turn_scopes.specs.Seats.{SeatView}
@@ -149,7 +149,6 @@ run_told {A} {B} law lines journal seat desks shows nodes workers cells register
       answered = λ calm. h.calm yard back told.register_is calm;
       whole = λ calm. h.whole yard back told.register_is calm;
       extended = λ calm. h.extended yard back calm;
-      lone = h.lone yard back told.register_is;
       shelved = subst (λ (c : Chain). (k : ℕ) (d : Segment) → k < length c.segments → (slice_index_or c.segments k d).id < length cells) (sym h.chain)
           (λ k d lt. let low = shelved law journal told.legal k d lt in omega (arith, low, size));
     }

@@ -28,7 +28,7 @@ use Rattle.fitting_run.specs.Yard.{Shown}
 use Rattle.fitting_run.specs.Calm.{IsCalm}
 use Rattle.fitting_run.specs.Faults.{faults_of}
 use Rattle.run_laws.proofs.Members.{Among, contains-among}
-use Rattle.run_course.proofs.Lines.{count-cons}
+use Rattle.node_course.proofs.Lines.{count-cons}
 use Rattle.run_ends.specs.Closing.{WorkerEnd, IsGivenBack}
 use Rattle.run_ends.specs.Reads.{AreReads}
 use Rattle.run_ends.proofs.Counting.{AreCounted}

@@ -1,22 +1,18 @@
 -- A run over nodes, with the yard that comes back.
-use Rattle.std.specs.Prelude.{◌≡◌, ◌<◌, true, List, length, count_by, is_some, All, not}
-use Rattle.std.specs.List.{list_all}
+use Rattle.std.specs.Prelude.{◌≡◌, ◌<◌, true, List, length, All}
 use Rattle.script_text.specs.declared.asks.NamedLine.{NamedLine}
 use Rattle.fabric_core.specs.Log.{virtual_tail}
 use Rattle.fitting_run.specs.declared.told.Told.{Told}
 use Rattle.fitting_run.specs.Yard.{Shown}
 use Rattle.fitting_run.specs.Fits.{Fits}
-use Rattle.fitting_run.specs.Replacements.{version_made, version_found}
 use Rattle.fitting_run.specs.Calm.{IsCalm, all_answered}
-use Rattle.fitting_run.specs.Calm.{GoesTo}
+use Rattle.crew_run.specs.Telling.{GoesByRows}
 
 -- What is told of these lines fits the yard. Where no fault was counted there, each line has its own answer, the run saw the whole
--- log, and the chain goes to a loglet as far behind the first as rows tell that the last one was replaced. No row tells that another
--- node replaced it, and each segment of the chain is a loglet of the shelf.
+-- log, and the chain goes by what rows tell. Each segment of the chain is a loglet of the shelf.
 pub record RunTold (lines : List NamedLine) (yard : Shown) (o : Told) : Type 0 where
   pub fits : Fits lines o yard
   pub answered : IsCalm yard → all_answered o.rows ≡ true
   pub whole : IsCalm yard → o.end ≡ virtual_tail o.chain yard.cells
-  pub extended : IsCalm yard → GoesTo o.chain (count_by (λ r. is_some (version_made r.outcome)) o.rows)
-  pub lone : list_all (λ r. not (is_some (version_found r.outcome))) o.rows ≡ true
+  pub extended : IsCalm yard → GoesByRows o.chain o.rows
   pub shelved : All (λ s. s.id < length yard.cells) o.chain.segments

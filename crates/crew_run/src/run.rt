@@ -9,7 +9,7 @@ ghost use Rattle.turn_scopes.specs.Floors.{FloorIs};
 ghost use Rattle.fitting_run.specs.Lines.{CanLog};
 ghost use Rattle.node_lines.specs.Workers.{MayRun};
 ghost use Rattle.run_ends.specs.Rules.{may_of};
-ghost use Rattle.run_course.specs.Script.{AreLines};
+ghost use Rattle.node_course.specs.Script.{AreLines};
 ghost use Rattle.node_crew.specs.Turns.{MaySendAll};
 ghost use Rattle.replica_api.specs.Fresh.{IsFreshReplica};
 ghost use Rattle.crew_run.specs.Running.{RunTold};

@@ -16,9 +16,15 @@ const IN_PLACE: usize = 32;
 
 /// A text of bytes, ordered as texts are: by the first byte in which two differ. One of at most 32 bytes, as most keys,
 /// values, headers and replies are, takes no memory beside the value.
-#[derive(Drop)]
 pub struct Bytes {
     items: SmallVec<u8, IN_PLACE>,
+}
+
+/// It is let go of in one call, wherever its bytes are.
+impl Drop for Bytes {
+    fn drop(self) {
+        let Bytes { items: _items } = self;
+    }
 }
 
 impl Model for Bytes {

@@ -1,2 +1,6 @@
 pub mod Leaving
 pub mod Walks
+pub mod Turning
+pub mod Counted
+pub mod Positions
+pub mod Reading

@@ -10,5 +10,10 @@ pub mod Replacements
 pub mod Reports
 pub mod Trims
 pub mod Fits
+pub mod Turns
+pub mod Cells
+pub mod Registers
+pub mod Yards
+pub mod Sorts
 pub mod Calm
 pub mod Lines

@@ -1,6 +1,6 @@
 //! The tests of which a fitting run is made, as plain programs: whether a row is of its line, and
 //! whether sessions and barriers are kept. The tests on lists compare each row with each later one.
-ghost use Rattle.std.specs.Prelude.{◌≡◌, ◌&&◌, nat_le};
+ghost use Rattle.std.specs.Prelude.{◌≡◌, ◌↔◌, ◌&&◌, IsTrue, nat_le, filter, length};
 ghost use Rattle.std.specs.List.{list_all, list_any};
 ghost use Rattle.std.specs.Option.{option_copied};
 ghost use Rattle.fitting_run.specs.Faults.{stops};
@@ -15,8 +15,8 @@ use delos_types::cause::Cause;
 use delos_types::numbers::{NodeId, SessionId};
 use delos_types::place::Place;
 use engine_api::act::Act;
-use row_text::row::{Outcome, Who};
-use script_text::asks::Asks;
+use row_text::row::{Outcome, Row, Who};
+use script_text::asks::{Asks, NamedLine};
 use script_text::line::{Admin, Session};
 
 fn session_asking(asked: &Asks) -> Option<&Session>
@@ -28,7 +28,7 @@ fn session_asking(asked: &Asks) -> Option<&Session>
     }
 }
 
-fn same_session(a: &Answered, b: &Answered) -> bool
+pub(crate) fn same_session(a: &Answered, b: &Answered) -> bool
     ensures { result ≡ answers_of.same_session a.now b.now }
 {
     match (session_asking(&a.line.asks), session_asking(&b.line.asks)) {
@@ -115,6 +115,29 @@ fn answers(asked: &Asks, outcome: &Outcome) -> bool
     }
 }
 
+fn has_row(asked: &Asks) -> bool
+    ensures { result ≡ answers_of.has_row asked.now }
+{
+    match asked {
+        Asks::Logged { .. } => true,
+        Asks::Look { .. } => true,
+        Asks::Admin(_) => true,
+    }
+}
+
+fn rows_asked_for(lines: &[NamedLine]) -> usize
+    ensures { result ≡ length (filter (λ l. answers_of.has_row l.asks) lines.now) }
+{
+    lines.iter().filter(|line| has_row(&line.asks)).count()
+}
+
+/// There are as many rows as lines that have one.
+pub fn as_many_rows(lines: &[NamedLine], rows: &[Row]) -> bool
+    ensures { IsTrue result ↔ (length rows.now ≡ length (filter (λ l. answers_of.has_row l.asks) lines.now)) }
+{
+    rows.len() == rows_asked_for(lines)
+}
+
 /// The row is of its line: the line's number, who asked there, and a kind of answer that the line
 /// has.
 pub fn is_row_of(answered: &Answered) -> bool
@@ -199,7 +222,7 @@ pub fn stays_stopped(told: &[Answered]) -> bool
     }
 }
 
-fn is_late(outcome: &Outcome) -> bool
+pub(crate) fn is_late(outcome: &Outcome) -> bool
     ensures { result ≡ answers_of.is_late outcome.now }
 {
     match outcome {
@@ -217,7 +240,7 @@ fn stops(b: &Answered, a: &Answered) -> bool
         && (is_open(&a.row.outcome) || is_late(&a.row.outcome))
 }
 
-fn some_stops(b: &Answered, told: &[Answered]) -> bool
+pub(crate) fn some_stops(b: &Answered, told: &[Answered]) -> bool
     ensures { result ≡ list_any (stops b.now) told.now }
 {
     told.iter().any(|a| stops(b, a))
@@ -229,7 +252,7 @@ fn tells_why(told: &[Answered], b: &Answered) -> bool
     logs(&b.line.asks) || some_stops(b, told)
 }
 
-fn cause_of(outcome: &Outcome) -> Option<Cause>
+pub(crate) fn cause_of(outcome: &Outcome) -> Option<Cause>
     ensures { result ≡ answers_of.cause_of outcome.now }
 {
     match outcome {

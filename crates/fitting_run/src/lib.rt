@@ -5,13 +5,20 @@
 //! - `told`: what a run tells.
 //! - `fitting`: the tests, as programs; `replacing`: those of replacements of the loglet; `reporting`: those of what nodes report;
 //!   `trimming`: those of trims.
-//! - `laws`: a law of the lines of every script.
+//! - `acting`: those of what placed rows say acted, and of reads; `counting`: how often causes must have come.
+//! - `yard`, `registering`, `faulting`: what is read of a yard, with the tests of its log, of its register, and of what was counted.
+//! - `laws`: a law of the lines of every script, and one of what is read of loglets.
 #![tactic(auto)]
 
+pub mod acting;
 pub mod answered;
+pub mod counting;
+pub mod faulting;
 pub mod fitting;
 pub mod laws;
+pub mod registering;
 pub mod replacing;
 pub mod reporting;
 pub mod told;
 pub mod trimming;
+pub mod yard;

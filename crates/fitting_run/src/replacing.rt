@@ -4,9 +4,10 @@ ghost use Rattle.std.specs.Prelude.{◌≡◌, ◌==◌};
 ghost use Rattle.std.specs.List.{list_all, list_any};
 ghost use Rattle.fitting_run.specs.Tests.{each_pair};
 ghost use Rattle.fitting_run.specs.Replacements as replacements;
-ghost use Rattle.chain_map.specs.Chain.{first_start, last_id, last_of_segments};
+ghost use Rattle.chain_map.specs.Chain.{first_start, last_id};
 
 use crate::answered::Answered;
+use crate::yard::last_segment;
 use delos_types::chain::{Chain, Segment};
 use delos_types::numbers::NodeId;
 use row_text::row::Outcome;
@@ -143,20 +144,10 @@ fn versions_at(node: NodeId, told: &[Answered]) -> u64
     count
 }
 
-fn last_of(segments: &[Segment]) -> u32
-    ensures { result ≡ (last_of_segments segments.now).id }
-{
-    match segments {
-        [] => 0,
-        [last] => last.id,
-        [_, rest @ ..] => last_of(rest),
-    }
-}
-
 fn last_id(chain: &Chain) -> u32
     ensures { result ≡ last_id chain.now }
 {
-    last_of(chain.segments.as_slice())
+    last_segment(chain.segments.as_slice()).id
 }
 
 /// There are ids in the chain for all the versions that rows of one node tell, in time that is the square of the rows' number.
@@ -167,7 +158,7 @@ pub fn each_has_an_id(chain: &Chain, told: &[Answered]) -> bool
     told.iter().all(|a| versions_at(a.line.node, told) <= last)
 }
 
-fn first_start(chain: &Chain) -> u64
+pub(crate) fn first_start(chain: &Chain) -> u64
     ensures { result ≡ first_start chain.now }
 {
     match chain.segments.as_slice() {

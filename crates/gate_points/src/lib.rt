@@ -7,8 +7,6 @@
 
 mod gate;
 mod hold;
-#[cfg(test)]
-mod tests;
 
 pub use gate::{Gate, NoGate, Point};
 pub use hold::HoldGate;

@@ -15,4 +15,4 @@ mod Others
 mod Places
 mod Trims
 pub mod Sealed
-pub mod Staying
+pub mod Asked

@@ -23,7 +23,7 @@ use Rattle.legal_journal.proofs.Log.{last_of_segments-extended_segments, rest_of
 use Rattle.legal_journal.proofs.Sound.{StateOk, step_ok}
 use Rattle.legal_journal.proofs.Legal.{sound, start_ok}
 use Rattle.journal_laws.proofs.Sealed.{seals_after}
-use Rattle.journal_laws.proofs.Staying.{tail_asked}
+use Rattle.journal_laws.proofs.Asked.{tail_asked}
 use Rattle.journal_laws.specs.Seals.{seal_of, seals_in}
 use Rattle.journal_laws.proofs.Counting.{as_long}
 

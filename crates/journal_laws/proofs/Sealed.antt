@@ -14,7 +14,7 @@ use Rattle.legal_journal.specs.Told.{Told, Running}
 use Rattle.legal_journal.specs.Moves.{CellMove, Begins, Carries, Answers, Drops, Misses, Move, OnCell, OnRegister, Nothing, Never, move, move_of}
 use Rattle.legal_journal.specs.Journal.{CellState, State, cell_after, answered_by, after, after_all}
 use Rattle.legal_journal.proofs.Cells.{put_cases}
-use Rattle.legal_journal.specs.Sealing.{is_seal, is_seal_on, begins_seal, begins_seal_on}
+use Rattle.legal_journal.specs.Sealing.{is_seal_on, begins_seal_on}
 
 -- Moves
 
@@ -87,26 +87,9 @@ count_cons p e es = sum_by-cons (λ (x : Event). cond (p x) 1 0) e es
 abbrev pub seals_asked : ℕ → Event → ℕ
 seals_asked i e = cond (begins_seal_on i e) 1 0
 
-pub by_event : (w : State) (i : ℕ) (e : Event) → ((after w e.who (move e)).cells i).told.seals ≤ (w.cells i).told.seals + seals_asked i e
+by_event : (w : State) (i : ℕ) (e : Event) → ((after w e.who (move e)).cells i).told.seals ≤ (w.cells i).told.seals + seals_asked i e
 by_event w i e = omega (arith, by_move w e.who i (move e), by_call i e.call e.answer)
 
 pub seals_after : (w : State) (i : ℕ) (es : List Event) → ((after_all w es).cells i).told.seals ≤ (w.cells i).told.seals + count_by (begins_seal_on i) es
 seals_after w i [] = omega arith
 seals_after w i (e ∷ es) = omega (arith, by_event w i e, seals_after (after w e.who (move e)) i es, count_cons (begins_seal_on i) e es)
-
--- where none of these events begins a Seal on a cell, neither the first does nor any of the others
-pub none_of : (i : ℕ) (e : Event) (es : List Event) → count_by (begins_seal_on i) (e ∷ es) ≡ 0 → (seals_asked i e ≡ 0) × (count_by (begins_seal_on i) es ≡ 0)
-none_of i e es h = let parts = count_cons (begins_seal_on i) e es in (omega (arith, h, parts), omega (arith, h, parts))
-
-one_of : (i : ℕ) (c : FabricCall) → cond (is_seal_on i c) 1 0 ≤ cond (is_seal c) 1 0
-one_of i (Begin j Seal) = at_most (j == i)
-  where
-    at_most : (b : Bool) → cond b 1 0 ≤ 1
-    at_most true = omega arith
-    at_most false = omega arith
-one_of i c = omega arith
-
--- a Seal on a cell is one
-pub fewer_on : (i : ℕ) (es : List Event) → count_by (begins_seal_on i) es ≤ count_by begins_seal es
-fewer_on i [] = omega arith
-fewer_on i (e ∷ es) = omega (arith, one_of i e.call, fewer_on i es, count_cons (begins_seal_on i) e es, count_cons begins_seal e es)

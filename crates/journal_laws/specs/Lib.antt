@@ -3,4 +3,3 @@ pub mod Seals
 pub mod Versions
 pub mod Faults
 pub mod Changes
-pub mod Unsealed

@@ -74,6 +74,7 @@ impl<V: KeptValue, D: Disk> Kept<V, D> {
         // The first record that is none of this kind or doesn't follow is told; a disk's fault was counted.
         ensures bad { (index : ℕ) → IfErr result (λ e. e.fault ≡ OpenFault.BadRecord index → IsFirstBad V.kind (records_of (reads (D.view disk))) index) }
         ensures failed { IfErr result (λ e. e.fault ≡ OpenFault.Disk → Rose (D.view disk).faults (D.view e.disk).faults) }
+        ensures faults_refused { IfErr result (λ e. (D.view disk).faults ≤ (D.view e.disk).faults) }
         ensures any_crash_refused { IfErr result (λ e. AnyCrashLeaves (D.view disk) (D.view e.disk) (λ found. found ≡ records_of (reads (D.view disk)))) }
     {
         let OpenedJournal { journal, records } = match JournalPair::open_on(alloc, disk) {

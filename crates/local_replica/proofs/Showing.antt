@@ -8,8 +8,8 @@ use Rattle.delos_types.specs.declared.item.Item.{Item}
 use Rattle.disk_model.specs.Disk.{DiskView, Rose}
 use Rattle.disk_model.specs.Crash.{AnyCrash}
 use Rattle.disk_model.specs.CrashLaws.{weaker, stays}
-use Rattle.journal_core.specs.Records.{records_of}
-use Rattle.journal_core.specs.Journal.{AnyCrashLeaves}
+use Rattle.journal_pair.specs.Records.{records_of}
+use Rattle.journal_pair.specs.Journal.{AnyCrashLeaves}
 use Rattle.store_records.specs.declared.change.Commit.{Commit}
 use Rattle.store_records.specs.Changing.{applied}
 use Rattle.store_records.specs.Spelled.{committed, saved_of}

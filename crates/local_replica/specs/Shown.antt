@@ -2,7 +2,7 @@
 use Rattle.std.specs.Prelude.{◌≡◌, ◌&&◌, not, nat_lt, ℕ, List, Some}
 use Rattle.std.specs.Option.{option_map}
 use Rattle.delos_types.specs.declared.item.Item.{Item}
-use Rattle.journal_core.specs.Records.{records_of}
+use Rattle.journal_pair.specs.Records.{records_of}
 use Rattle.store_records.specs.Spelled.{committed, saved_of}
 use Rattle.store_records.specs.Spelled as spelled
 use Rattle.local_store.specs.View as store

@@ -13,11 +13,13 @@ use Rattle.std.specs.Cmp.{IsTotalOrder, nat_cmp_total, Equal-is}
 use Rattle.std.specs.Cmp.Lexicographic.{slice_cmp}
 use Rattle.std.proofs.lemmas.Cmp.{nat_list_cmp_total, eq_by_cmp_equiv, then_total, on_total}
 use Rattle.std.proofs.lemmas.Map.Lookups.{CmpEqualImpliesEq, exact_pairs, exact_unsigned, exact_bytes}
-use Rattle.std.specs.FinMap.{get, remove, get-empty, get-insert, get-remove, same_map}
+use Rattle.std.specs.FinMap.{empty, get, remove, get-empty, get-insert, get-remove, same_map}
 use Rattle.delos_types.specs.Spaces.{SpaceMap, Text, space_cmp}
-use Rattle.store_records.specs.Changing.{set_at, applied}
+use Rattle.std.proofs.lemmas.List.Sums.{fold-append}
+use Rattle.std.proofs.lemmas.Bool.{false≢true}
+use Rattle.store_records.specs.Changing.{set_at, changed, applied}
 use Rattle.local_store.specs.declared.key.SpaceKey.{SpaceKey}
-use Rattle.local_store.specs.Slots.{Entries, key_cmp, key_pair, slot_of, value_in, held, changes_of, AreShort, AreFit, HaveRoom}
+use Rattle.local_store.specs.Slots.{Entries, key_cmp, key_pair, slot_of, value_in, held, changes_of, AreShort, AreFit, HaveRoom, set_of, set_after}
 
 -- ---- keys
 
@@ -156,19 +158,12 @@ held-same es fs k none h = same_map space_total space_exact _ _ (λ p.
 
 -- ---- which keys have slots
 
-short_by : (k q : SpaceKey) (slot : Option (Option Text)) (o : Option Text) (b : Bool) → is_at (key_cmp k) q ≡ b → (IsSome slot → length q.key < 2 ^ 16) → length k.key < 2 ^ 16 → IsSome (cond b (Some o) slot) → length q.key < 2 ^ 16
-short_by k q slot o true e old lt some = subst (λ (x : SpaceKey). length x.key < 2 ^ 16) (at_same k q e) lt
-short_by k q slot o false e old lt some = old some
+short_by : (q : SpaceKey) (slot : Option (Option Text)) → ((o : Option Text) → slot ≡ Some o → (length q.key < 2 ^ 16) × IfSome o (λ v. length v < 2 ^ 32)) → IsSome slot → length q.key < 2 ^ 16
+short_by q None fit some = absurd (cc)
+short_by q (Some o) fit some = (fit o refl).0
 
-pub short-set : (es fs : Entries) (k : SpaceKey) (o : Option Text) → AreShort es → length k.key < 2 ^ 16 → SetsSlot es fs k o → AreShort fs
-short-set es fs k o old lt h = λ q some. short_by k q (slot_of es q) o (is_at (key_cmp k) q) refl (old q) lt (subst (λ (s : Option (Option Text)). IsSome s) (h q) some)
-
-still_some : (b : Bool) (slot : Option (Option Text)) → IsSome (cond b None slot) → IsSome slot
-still_some true slot some = cc
-still_some false slot some = some
-
-pub short-gone : (es fs : Entries) (k : SpaceKey) → AreShort es → DropsSlot es fs k → AreShort fs
-short-gone es fs k old h = λ q some. old q (still_some (is_at (key_cmp k) q) (slot_of es q) (subst (λ (s : Option (Option Text)). IsSome s) (h q) some))
+pub short_of_fit : (es : Entries) → AreFit es → AreShort es
+short_of_fit es fit = λ q some. short_by q (slot_of es q) (fit q) some
 
 some_set : (b : Bool) (o : Option Text) (slot : Option (Option Text)) → IsSome slot → IsSome (cond b (Some o) slot)
 some_set true o slot some = refl
@@ -188,6 +183,26 @@ fit_by k q slot o p false e old lt small is = old is
 
 pub fit-set : (es fs : Entries) (k : SpaceKey) (o : Option Text) → AreFit es → length k.key < 2 ^ 16 → IfSome o (λ v. length v < 2 ^ 32) → SetsSlot es fs k o → AreFit fs
 fit-set es fs k o old lt small h = λ q p is. fit_by k q (slot_of es q) o p (is_at (key_cmp k) q) refl (old q p) lt small (sym (h q) ∙ is)
+
+dropped : (b : Bool) (slot : Option (Option Text)) (p : Option Text) → cond b None slot ≡ Some p → slot ≡ Some p
+dropped true slot p is = absurd (cc)
+dropped false slot p is = is
+
+pub fit-gone : (es fs : Entries) (k : SpaceKey) → AreFit es → DropsSlot es fs k → AreFit fs
+fit-gone es fs k old h = λ q p is. old q p (dropped (is_at (key_cmp k) q) (slot_of es q) p (sym (h q) ∙ is))
+
+-- the slot of the first key, and those of the others
+pub first_slot : (e : SpaceKey × Option Text) (es : Entries) → slot_of (e ∷ es) e.0 ≡ Some e.1
+first_slot e es = ap (λ b. cond b (Some e.1) (slot_of es e.0)) ((eq_by_cmp_equiv space_total).refl (key_pair e.0))
+
+later_slot : (e : SpaceKey × Option Text) (es : Entries) (q : SpaceKey) (p : Option Text) (b : Bool) → is_at (key_cmp q) e.0 ≡ b → IsInOrder (e ∷ es) → slot_of es q ≡ Some p → cond b (Some e.1) (slot_of es q) ≡ Some p
+later_slot e es q p true at s is =
+    let none : slot_of es q ≡ None = subst (λ (x : SpaceKey). slot_of es x ≡ None) (sym (at_same q e.0 at)) (none_later e.0 es (head_below e es s)) in
+    absurd (cc)
+later_slot e es q p false at s is = is
+
+pub fit_rest : (e : SpaceKey × Option Text) (es : Entries) → IsInOrder (e ∷ es) → AreFit (e ∷ es) → AreFit es
+fit_rest e es s fit = λ q p is. fit q p (later_slot e es q p (is_at (key_cmp q) e.0) refl s is)
 
 -- ---- room
 
@@ -236,3 +251,73 @@ no_long_key base changes k short fit ordered long =
     get-applied changes ordered (held base) k
     ∙ ap (λ (slot : Option (Option Text)). unwrap_or slot (get (held base) (key_pair k))) unchanged
     ∙ get-held base k ∙ ap value_in absent
+
+-- ---- a whole space after changes
+
+-- the value at a key by its slot, where a change of it is said by another
+abbrev pub shown : Option (Option Text) → Option (Option Text) → Option Text
+shown change None = None
+shown change (Some o) = unwrap_or change o
+
+or_else : Option Text → Option Text → Option Text
+or_else None r = r
+or_else (Some v) r = Some v
+
+else_none : (o : Option Text) → or_else o None ≡ o
+unfolding or_else
+else_none None = refl
+else_none (Some v) = refl
+
+same_either : (b : Bool) (r : Option Text) → r ≡ cond b r r
+same_either true r = refl
+same_either false r = refl
+
+get-set_of : (m : SpaceMap) (k : SpaceKey) (o : Option Text) (q : SpaceKey) → get (applied m (set_of k o)) (key_pair q) ≡ cond (is_at (key_cmp q) k) (or_else o (get m (key_pair q))) (get m (key_pair q))
+unfolding or_else
+get-set_of m k None q = same_either (is_at (key_cmp q) k) (get m (key_pair q))
+get-set_of m k (Some v) q = get-set_at m (key_pair k) (Some v) (key_pair q)
+
+set_step : (b : Bool) (c : Option (Option Text)) (o x r : Option Text) (slot : Option (Option Text)) → (b ≡ true → (slot ≡ None) × (x ≡ unwrap_or c o)) → or_else (shown c slot) (cond b (or_else x r) r) ≡ or_else (shown c (cond b (Some o) slot)) r
+unfolding or_else
+set_step true c o x r slot here = ap (λ (s : Option (Option Text)). or_else (shown c s) (or_else x r)) (here refl).0 ∙ ap (λ (y : Option Text). or_else y r) (here refl).1
+set_step false c o x r slot here = refl
+
+get-set_after : (cs es : Entries) → IsInOrder es → (m : SpaceMap) (q : SpaceKey) → get (applied m (set_after cs es)) (key_pair q) ≡ or_else (shown (slot_of cs q) (slot_of es q)) (get m (key_pair q))
+unfolding or_else
+get-set_after cs [] s m q = refl
+get-set_after cs (e ∷ es) s m q =
+    let x : Option Text = unwrap_or (slot_of cs e.0) e.1 in
+    let here : is_at (key_cmp q) e.0 ≡ true → (slot_of es q ≡ None) × (x ≡ unwrap_or (slot_of cs q) e.1) =
+    λ (b : is_at (key_cmp q) e.0 ≡ true). (
+      subst (λ (y : SpaceKey). slot_of es y ≡ None) (sym (at_same q e.0 b)) (none_later e.0 es (head_below e es s)),
+      ap (λ (y : SpaceKey). unwrap_or (slot_of cs y) e.1) (sym (at_same q e.0 b)),
+    ) in
+    ap (λ (n : SpaceMap). get n (key_pair q)) (fold-append changed m (set_of e.0 x) (set_after cs es))
+    ∙ get-set_after cs es (tail_ordered e es s) (applied m (set_of e.0 x)) q
+    ∙ ap (λ (r : Option Text). or_else (shown (slot_of cs q) (slot_of es q)) r) (get-set_of m e.0 x q)
+    ∙ set_step (is_at (key_cmp q) e.0) (slot_of cs q) e.1 x (get m (key_pair q)) (slot_of es q) here
+
+-- a key without a slot is changed by none for which there is room
+unchanged_step : (es cs : Entries) (c : SpaceKey × Option Text) (q : SpaceKey) (b : Bool) → is_at (key_cmp q) c.0 ≡ b → IsSome (slot_of es c.0) → slot_of es q ≡ None → slot_of cs q ≡ None → cond b (Some c.1) (slot_of cs q) ≡ None
+unchanged_step es cs c q true at some none rest =
+    let here : IsSome (slot_of es q) = subst (λ (y : SpaceKey). IsSome (slot_of es y)) (sym (at_same q c.0 at)) some in
+    absurd (false≢true (sym (ap is_some none) ∙ here))
+unchanged_step es cs c q false at some none rest = rest
+
+unchanged : (es cs : Entries) (q : SpaceKey) → HaveRoom es cs → slot_of es q ≡ None → slot_of cs q ≡ None
+unchanged es [] q room none = refl
+unchanged es (c ∷ cs) q room none = unchanged_step es cs c q (is_at (key_cmp q) c.0) refl room.0 none (unchanged es cs q room.1 none)
+
+shown_is : (change slot : Option (Option Text)) → (slot ≡ None → change ≡ None) → shown change slot ≡ unwrap_or change (value_in slot)
+shown_is change None none = ap (λ (c : Option (Option Text)). unwrap_or c None) (sym (none refl))
+shown_is change (Some o) none = refl
+
+pub applied-set_after : (es cs : Entries) → IsInOrder es → IsInOrder cs → HaveRoom es cs → applied empty (set_after cs es) ≡ applied (held es) (changes_of cs)
+unfolding key_of or_else
+applied-set_after es cs s t room = same_map space_total space_exact _ _ (λ p.
+    let q = key_of p in
+    get-set_after cs es s empty q
+    ∙ ap (or_else (shown (slot_of cs q) (slot_of es q))) (get-empty space_cmp p)
+    ∙ else_none (shown (slot_of cs q) (slot_of es q))
+    ∙ shown_is (slot_of cs q) (slot_of es q) (unchanged es cs q room)
+    ∙ sym (get-applied cs t (held es) q ∙ ap (λ (r : Option Text). unwrap_or (slot_of cs q) r) (get-held es q)))

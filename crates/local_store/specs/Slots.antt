@@ -1,9 +1,10 @@
 -- How a space and the changes of a transaction are kept in memory: a slot for a key has its value, or says that it has
 -- none. A key without a slot has none either; in a transaction it is left as it is.
-use Rattle.std.specs.Prelude.{◌≡◌, ◌==◌, ◌&&◌, not, ℕ, ◌^◌, ◌<◌, Bool, if◌then◌else◌, List, [], ◌∷◌, map, length, Option, Some, None, is_some, IsSome, IfSome, unwrap_or}
+use Rattle.std.specs.Prelude.{◌≡◌, ◌==◌, ◌&&◌, not, ℕ, ◌^◌, ◌<◌, Bool, if◌then◌else◌, List, [], ◌∷◌, ◌++◌, map, length, Option, Some, None, is_some, IsSome, IfSome, unwrap_or}
 use Rattle.std.specs.Ordering.{nat_cmp, ordering_then, is_gt}
 use Rattle.std.specs.declared.cmp.Ordering.{Ordering}
-use Rattle.std.specs.Map.{lookup}
+use Rattle.std.specs.List.Sorted.{IsStrictlySortedBy}
+use Rattle.std.specs.Map.{lookup, keys_of}
 use Rattle.std.specs.BTreeMap.{is_at}
 use Rattle.std.specs.FinMap as finmap
 use Rattle.delos_types.specs.Spaces.{SpaceMap, Text, text_cmp}
@@ -54,6 +55,11 @@ abbrev pub HaveRoom : Entries → Entries → Type 0
 HaveRoom es [] = Unit {0}
 HaveRoom es (c ∷ cs) = IsSome (slot_of es c.0) × HaveRoom es cs
 
+-- so that they can be made in their order
+pub record RoomFor (es changes : Entries) : Type 0 where
+  pub slots : HaveRoom es changes
+  pub ordered : IsStrictlySortedBy key_cmp (keys_of changes)
+
 -- The first key of the kind that has a value and isn't hidden, in slots that begin at a key of the kind, in order.
 abbrev pub first_shown : ℕ → (SpaceKey → Bool) → Entries → Option Text
 first_shown kind hidden [] = None
@@ -65,3 +71,13 @@ abbrev pub lesser_of : Option Text → Option Text → Option Text
 lesser_of None other = other
 lesser_of (Some a) None = Some a
 lesser_of (Some a) (Some b) = if is_gt (text_cmp a b) then Some b else Some a
+
+-- the change by which a key gets a value, if there is one
+abbrev pub set_of : SpaceKey → Option Text → List Change
+set_of k None = []
+set_of k (Some v) = record { kind = k.kind; key = k.key; value = Some v } ∷ []
+
+-- the changes by which an empty space gets what these slots hold once changes are made of which each has a slot here
+abbrev pub set_after : Entries → Entries → List Change
+set_after changes [] = []
+set_after changes (e ∷ es) = set_of e.0 (unwrap_or (slot_of changes e.0) e.1) ++ set_after changes es

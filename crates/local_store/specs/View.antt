@@ -1,9 +1,10 @@
 -- A store and a transaction as their callers see them, and what a crash leaves of a store.
-use Rattle.std.specs.Prelude.{◌≡◌, ◌⊎◌, ℕ, Bool, false, if◌then◌else◌, List, Option, Some, None, refl}
+use Rattle.std.specs.Prelude.{◌≡◌, ◌≢◌, ◌⊎◌, ℕ, ◌+◌, ◌-◌, ◌<◌, ◌≤◌, Bool, false, if◌then◌else◌, List, length, Option, Some, None, refl}
 use Rattle.std.specs.Coded.{Coded, code_by, coded×, coded_ℕ, coded_list, coded_option, coded_bool}
 use Rattle.delos_types.specs.Spaces.{SpaceMap}
-use Rattle.disk_model.specs.Disk.{DiskView}
-use Rattle.journal_core.specs.Journal.{LeavesRecords}
+use Rattle.disk_model.specs.Disk.{DiskView, reads}
+use Rattle.journal_pair.specs.Records.{records_of}
+use Rattle.journal_pair.specs.Journal.{LeavesRecords}
 use Rattle.store_records.specs.declared.change.Change.{Change}
 use Rattle.store_records.specs.declared.change.Commit.{Commit}
 use Rattle.store_records.specs.Changing.{applied}
@@ -74,3 +75,12 @@ pub record Survives (v : View) : Type 0 where
   pub whole : v.down ≡ false → v.asked ≡ None
   pub running : v.down ≡ false → v.disk.stopped ≡ false
   pub left : LeavesRecords v.disk (MayFind v)
+
+-- a transaction after which there are more records compacts them to one
+abbrev pub most_records : ℕ
+most_records = 256
+
+-- A commit is two of the writes that an armed disk counts, and where it compacts at most four more.
+pub record CountsWrites (old new : DiskView) : Type 0 where
+  pub two : length (records_of (reads old)) < most_records → (old.armed ≢ 1) × (old.armed ≢ 2) × (new.armed ≡ old.armed - 2)
+  pub six : old.armed ≤ new.armed + 6

@@ -1,41 +1,8 @@
-//! Why a disk wasn't opened as a store's, and why a transaction wasn't committed.
+//! Why a transaction wasn't committed.
 ghost use Rattle.std.specs.Prelude.{◌≡◌};
 
-use std::alloc::{AllocError, AllocFailed};
+use std::alloc::AllocError;
 use thiserror::Error;
-
-/// Why a store wasn't opened.
-#[derive(Clone, Copy, Debug, PartialEq, Eq, Error)]
-pub enum OpenFault {
-    /// The disk failed.
-    #[error("the disk failed")]
-    Disk,
-    /// Out of memory.
-    #[error("out of memory")]
-    Memory,
-    /// This record, counted from 0, is none of a store's, or its cursor falls.
-    #[error("record {index} is bad")]
-    BadRecord { index: usize },
-}
-
-impl From<AllocError> for OpenFault {
-    ghost use Rattle.local_store.specs.declared.fault.OpenFault.TheVariants as open_fault;
-
-    ghost from_gives = { λ _ e. e ≡ open_fault.Memory };
-
-    fn from(_: AllocError) -> Self {
-        OpenFault::Memory
-    }
-}
-
-/// A disk that wasn't opened, and why.
-#[derive(Drop)]
-pub struct Refused<D: Drop> {
-    /// Why.
-    pub fault: OpenFault,
-    /// The disk.
-    pub disk: D,
-}
 
 /// Why a transaction wasn't committed.
 #[derive(Clone, Copy, Debug, PartialEq, Eq, Error)]

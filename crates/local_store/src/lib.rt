@@ -7,16 +7,17 @@
 //! of a store), `Slots` (how spaces and changes are kept in memory), `Keeping` (how that and the journal belong together).
 #![tactic(auto)]
 
+mod asked;
 mod base;
 mod fault;
 mod key;
 mod key_text;
-mod replay;
 mod seek;
 mod spell;
 mod store;
 mod txn;
 
-pub use fault::{CommitFault, OpenFault, Refused};
+pub use fault::CommitFault;
+pub use kept_value::{OpenFault, Refused};
 pub use store::Store;
 pub use txn::Txn;

@@ -131,26 +131,3 @@ fn drop_at<M: Drop>(copies: &mut Slab<M>, key: usize)
 {
     let _ = copies.try_remove(key);
 }
-
-#[cfg(test)]
-mod tests {
-    use super::*;
-    use std::test::Fail;
-
-    /// Copies come by number; the newest is taken back, and another is kept in its place.
-    #[test]
-    fn copies_come_again(rt: HostRuntime) -> Result<(), Fail> {
-        let mut bag = Bag::new(rt.alloc());
-        assert_eq!(rt; bag.stray(4).copied(), None::<u64>);
-        bag.keep_copy(20u64)?;
-        bag.keep_copy(5)?;
-        assert_eq!(rt; bag.stray(10).copied(), Some(20));
-        assert_eq!(rt; bag.stray(11).copied(), Some(5));
-        bag.drop_newest();
-        assert_eq!(rt; bag.copies(), 1);
-        assert_eq!(rt; bag.stray(11).copied(), Some(20));
-        bag.keep_copy(7)?;
-        assert_eq!(rt; bag.stray(11).copied(), Some(7));
-        Ok(())
-    }
-}

@@ -1,8 +1,7 @@
 -- All nodes, in a phase and between two.
-use Rattle.std.proofs.Common.{◌≡◌, ◌≢◌, refl, sym, ap, ◌∙◌, subst, ◌⊎◌, inl, inr, ℕ, zero, suc, ◌+◌, ◌-◌, ◌<◌, ◌≤◌, Bool, true, false, List, [], ◌∷◌, Option, Some, length, arith}
-use Rattle.std.specs.Prelude.{◌==◌, slice_get, slice_set, remove, insert}
+use Rattle.std.proofs.Common.{◌≡◌, ◌≢◌, refl, sym, ap, ◌∙◌, subst, ◌⊎◌, inl, inr, ℕ, zero, suc, ◌+◌, ◌-◌, ◌<◌, ◌≤◌, Bool, true, false, cond, List, [], ◌∷◌, ◌++◌, Option, Some, length, length-append, arith, eq-eqb, eqb-true}
+use Rattle.std.specs.Prelude.{◌==◌, get_or, slice_get, slice_set, remove, insert}
 use Rattle.std.proofs.lemmas.Bool.{cases_lt}
-use Rattle.std.proofs.lemmas.Bool.Decides.{nat_tests}
 use Rattle.std.proofs.lemmas.List.{length-set}
 use Rattle.std.proofs.lemmas.Option.{slice_get_within}
 use Rattle.fabric_core.proofs.Marks.{set_other, set_same}
@@ -11,41 +10,32 @@ use Rattle.delos_types.specs.declared.entry.Entry.{Entry}
 use Rattle.legal_journal.specs.Law.{Law}
 use Rattle.legal_journal.specs.declared.events.Event.{Event}
 use Rattle.legal_journal.specs.Journal.{IsLegal}
-use Rattle.journal_laws.specs.Changes.{TrimsUpTo}
 use Rattle.replica_api.specs.Replica.{Saved}
-use Rattle.turn_scopes.specs.Floors.{FloorIs}
 use Rattle.script_text.specs.declared.asks.NamedLine.{NamedLine}
+use Rattle.turn_scopes.specs.Alone.{OwnSince}
 use Rattle.turn_scopes.specs.Seats.{SeatView, SeatOk}
 use Rattle.node_lines.specs.declared.desk.Desk.{Desk}
 use Rattle.node_lines.specs.declared.lines.Looked.{Looked}
-use Rattle.node_lines.specs.Workers.{MayRun, Grows, sent_of}
-use Rattle.node_lines.proofs.Sent.{none_sent}
+use Rattle.node_lines.specs.Workers.{MayRun, Grows}
 use Rattle.node_lines.proofs.Staying.{seat_later}
-use Rattle.run_course.specs.Script.{AreLines, BeginsAt, asked_before}
-use Rattle.run_course.specs.Course.{CourseOk}
-use Rattle.run_course.specs.Workers.{WorkerAt, Rests, IsUnderWay}
-use Rattle.run_course.proofs.Waiting.{rests_on}
-use Rattle.run_course.proofs.Passing.{phase_passed}
-use Rattle.run_course.proofs.Turning.{turn_begins}
-use Rattle.run_course.proofs.Lines.{phase_before}
-use Rattle.run_course.proofs.Asking.{sent_asked}
-use Rattle.run_course.proofs.Beginning.{next_phase, course_begins, rests_then}
-use Rattle.node_crew.specs.Turns.{TurnWent}
-use Rattle.node_crew.proofs.Playing.{worker_stands}
-use Rattle.node_crew.specs.Crews.{HasNone, HasOne, EndsPhase, CrewAt, CrewRests, CrewStands}
+use Rattle.node_course.specs.Script.{AreLines, BeginsAt}
+use Rattle.node_course.specs.Moments.{NodeCourse, and_then, next_phase}
+use Rattle.node_course.specs.Telling.{AreBehind}
+use Rattle.node_course.specs.Workers.{HasRested, NodeAt, Rests}
+use Rattle.node_course.proofs.Staying.{node_stays}
+use Rattle.node_course.proofs.Passing.{phase_passed}
+use Rattle.node_course.proofs.Lines.{phase_before}
+use Rattle.node_course.proofs.Beginning.{rests_then}
+use Rattle.node_crew.specs.Turns.{HasNone, HasOne, IsUnderWay, KeepsOthers}
+use Rattle.node_crew.specs.Crews.{AreAtWork, EndsPhase, HasSeenAll, CrewAt, CrewRests, CrewStands, SealsOfNodes}
+use Rattle.node_crew.proofs.Playing.{worker_stands, others_of}
+use Rattle.node_crew.proofs.Working.{at_work_none, get_beyond, get_pushed, has_line_in, seals_more, worked_before, worked_now}
 
 -- an element is taken out, and another put in its place
 pub put_back : {A : Type 0} (xs : List A) (k : ℕ) (y : A) → k < length xs → insert (remove xs k) k y ≡ slice_set xs k y
 put_back [] k y h = absurd (omega arith)
 put_back (x ∷ xs) zero y h = refl
 put_back (x ∷ xs) (suc k) y h = ap (λ l. x ∷ l) (put_back xs k y (omega arith))
-
-pub apart : (j k : ℕ) → j ≢ k → (k + 1 == j + 1) ≡ false
-apart j k other = by (k + 1 == j + 1) refl
-  where
-    by : (b : Bool) → (k + 1 == j + 1) ≡ b → (k + 1 == j + 1) ≡ false
-    by false e = e
-    by true e = absurd (other (grind (arith, nat_tests, e)))
 
 -- each element after one was changed is that one, or was there
 pub changed : {A : Type 0} (xs : List A) (k j : ℕ) (old y w : A) → slice_get xs k ≡ Some old → slice_get (slice_set xs k y) j ≡ Some w → ((j ≡ k) × (y ≡ w)) ⊎ ((j ≢ k) × (slice_get xs j ≡ Some w))
@@ -61,113 +51,206 @@ changed xs k j old y w at is = by (cases_lt j k) (cases_lt k j)
         let same : j ≡ k = omega (arith, high, low) in
         inl (same, some refl (sym (set_same xs k y old at) ∙ (ap (slice_get (slice_set xs k y)) (sym same) ∙ is)))
 
+-- a node that rests stays so while others make these events, and their lines' looks come to something
+rests_on : (law : Law) (state : List Entry → SpaceMap → Type 0) (spells : List ℕ → Saved → Type 0) → MayRun law → (lines : List NamedLine) (home : ℕ → ℕ) (nodes : ℕ) (c : NodeCourse) (looks looks' : List (Option Looked)) (n m from done : ℕ) (journal journal' : List Event) (seat : SeatView) (desks : List Desk)
+    → (since : OwnSince n journal journal') → m ≢ n → c.seen ≡ journal → IsLegal law journal' → KeepsOthers lines n looks looks'
+    → Rests law state spells lines home nodes c looks m from done seat desks → Rests law state spells lines home nodes (and_then c since.more) looks' m from done seat desks
+rests_on law state spells run lines home nodes c looks looks' n m from done journal journal' seat desks since apart seen legal keeps r = record {
+  node = node_stays law state spells run lines home nodes c looks looks' m from from done since.more seat desks (others_of n m since.more (λ same. apart (sym same)) since.own)
+      (subst (IsLegal law) (since.seen ∙ ap (λ j. j ++ since.more) (sym seen)) legal) keeps.size (λ i l get own. keeps.others i l get (by l own (l.node == n) refl)) r.node;
+  none_given = r.none_given;
+}
+  where
+    by : (l : NamedLine) → l.node ≡ m → (b : Bool) → (l.node == n) ≡ b → (l.node == n) ≡ false
+    by l own false is = is
+    by l own true is = absurd (apart (sym own ∙ eqb-true l.node n is))
+
+-- the course of a node whose turn it was; the others' go on with its events
+abbrev pub courses_then : (ℕ → NodeCourse) → ℕ → NodeCourse → List Event → ℕ → NodeCourse
+courses_then courses n course more m = cond (m == n) course (and_then (courses m) more)
+
+course_own : (courses : ℕ → NodeCourse) (n : ℕ) (course : NodeCourse) (more : List Event) → courses_then courses n course more n ≡ course
+course_own courses n course more = ap {B = NodeCourse} (λ b. cond b course (and_then (courses n) more)) (eq-eqb n n refl)
+
+course_other : (courses : ℕ → NodeCourse) (n m : ℕ) (course : NodeCourse) (more : List Event) → m ≢ n → courses_then courses n course more m ≡ and_then (courses m) more
+course_other courses n m course more apart = ap {B = NodeCourse} (λ b. cond b course (and_then (courses m) more)) (by (m == n) refl)
+  where
+    by : (b : Bool) → (m == n) ≡ b → (m == n) ≡ false
+    by false is = is
+    by true is = absurd (apart (eqb-true m n is))
+
+some_of : {A : Type 0} (xs : List A) (i : ℕ) → i < length xs → (x : A) × (slice_get xs i ≡ Some x)
+some_of [] i low = absurd (omega arith)
+some_of (x ∷ xs) zero low = (x, refl)
+some_of (x ∷ xs) (suc i) low = some_of xs i (omega arith)
+
 module _ {A : Type 0} (law : Law) (state : List Entry → SpaceMap → Type 0) (spells : List ℕ → Saved → Type 0) (lines : List NamedLine) (seat : A → SeatView) (desks : A → List Desk) (workers : List A) where
-  -- whose turn it is can take the fabric
+  -- the node at this index has seen all of the run
+  seen_at : {phase : ℕ} {begins : List (List Event)} {journal : List Event} {courses : ℕ → NodeCourse} → ((n : ℕ) → 1 ≤ n → n ≤ length workers → HasSeenAll phase begins journal (courses n)) → (j : ℕ) (w : A) → slice_get workers j ≡ Some w → HasSeenAll phase begins journal (courses (j + 1))
+  seen_at seen j w at = let inside = slice_get_within workers j w at in seen (j + 1) (omega arith) (omega (arith, inside))
+
+  -- each node can take the fabric
   pub crew_stands : (from to k : ℕ) (journal : List Event) (looks : List (Option Looked)) → CrewAt law state spells lines from to k journal looks seat desks workers → CrewStands law state spells journal seat workers
   crew_stands from to k journal looks h = λ j w at. by j w at (cases_lt j k)
     where
-      of : (n begin done : ℕ) (w : A) → Rests law state spells lines h.home (length workers) h.course h.counts looks n begin done (seat w) (desks w) → SeatOk law state spells journal (seat w)
-      of n begin done w r = subst (λ i. SeatOk law state spells i (seat w)) h.journal_is (worker_stands law state spells n h.course.journal (seat w) (desks w) r.worker.ok)
+      of : (j begin done : ℕ) (w : A) → slice_get workers j ≡ Some w → Rests law state spells lines h.home (length workers) (h.courses (j + 1)) looks (j + 1) begin done (seat w) (desks w) → SeatOk law state spells journal (seat w)
+      of j begin done w at r = subst (λ i. SeatOk law state spells i (seat w)) (seen_at h.seen j w at).seen_is (worker_stands law state spells (j + 1) (h.courses (j + 1)).seen (seat w) (desks w) r.node.ok)
 
       by : (j : ℕ) (w : A) → slice_get workers j ≡ Some w → (j < k) ⊎ (k ≤ j) → SeatOk law state spells journal (seat w)
-      by j w at (inl low) = of (j + 1) to (h.course.phase + 1) w (h.had j w low at)
-      by j w at (inr high) = of (j + 1) from h.course.phase w (h.waits j w high at)
+      by j w at (inl low) = of j to (h.phase + 1) w at (h.had j w low at)
+      by j w at (inr high) = of j from h.phase w at (h.waits j w high at)
 
-  -- it is the turn of the next node, which has a line in the phase
-  pub crew_plays : (from to k : ℕ) (journal : List Event) (looks : List (Option Looked)) (w : A) → slice_get workers k ≡ Some w → k < length workers
-      → FloorIs law.floor (length workers) → HasOne lines from (k + 1)
+  -- it is the turn of the next node
+  pub crew_plays : (from to k : ℕ) (journal : List Event) (looks : List (Option Looked)) (w : A) → slice_get workers k ≡ Some w
       → (h : CrewAt law state spells lines from to k journal looks seat desks workers)
-      → IsUnderWay law state spells lines h.home (length workers) h.course h.counts looks (k + 1) from from journal (seat w) (desks w)
-  crew_plays from to k journal looks w at there low one h = record {
-    journal_is = h.journal_is;
-    lines_are = h.lines_are;
-    least = omega arith;
-    most = omega (arith, there);
-    begins = h.begins;
-    ok = h.ok;
-    worker = waits.worker;
-    high = subst (TrimsUpTo (seat w).node.replica.cursor) h.journal_is
-        (turn_begins law state spells lines h.home (length workers) h.course h.counts looks (k + 1) from one.at h.course.phase one.line (seat w) (desks w) low h.lines_are h.ok one.is one.node one.behind waits);
-  }
-    where
-      waits : Rests law state spells lines h.home (length workers) h.course h.counts looks (k + 1) from h.course.phase (seat w) (desks w)
-      waits = h.waits k w (omega arith) at
+      → IsUnderWay law state spells lines h.home (length workers) (h.courses (k + 1)) looks (k + 1) from from journal (seat w) (desks w)
+  crew_plays from to k journal looks w at h =
+      let s = seen_at h.seen k w at in
+      record {
+        seen_is = s.seen_is;
+        lines_are = h.lines_are;
+        begins = subst (BeginsAt lines from) (sym s.phase_is) h.starts;
+        node = subst (λ p. NodeAt law state spells lines h.home (length workers) (h.courses (k + 1)) looks (k + 1) from from p (seat w) (desks w)) (sym s.phase_is) (h.waits k w (omega arith) at).node;
+      }
 
-  -- a node without a line in the phase has had its turn
+  pub crew_ending : (from to k : ℕ) (journal : List Event) (looks : List (Option Looked)) (w : A) → slice_get workers k ≡ Some w
+      → (h : CrewAt law state spells lines from to k journal looks seat desks workers) → BeginsAt lines to ((h.courses (k + 1)).phase + 1)
+  crew_ending from to k journal looks w at h = subst (λ p. BeginsAt lines to (p + 1)) (sym (seen_at h.seen k w at).phase_is) h.ends
+
+  -- a node without a line in the phase passes by
+  passes : (home : ℕ → ℕ) (c : NodeCourse) (looks : List (Option Looked)) (n from to phase : ℕ) (w : A) → c.phase ≡ phase → from ≤ to → BeginsAt lines from phase → HasNone lines from to n
+      → Rests law state spells lines home (length workers) c looks n from phase (seat w) (desks w) → Rests law state spells lines home (length workers) c looks n to (phase + 1) (seat w) (desks w)
+  passes home c looks n from to phase w is range b none r = subst (λ p. Rests law state spells lines home (length workers) c looks n to (p + 1) (seat w) (desks w)) is (record {
+    node = phase_passed law state spells lines home (length workers) c looks n from to (seat w) (desks w) range (subst (BeginsAt lines from) (sym is) b) none
+        (subst (λ p. NodeAt law state spells lines home (length workers) c looks n from from p (seat w) (desks w)) (sym is) r.node);
+    none_given = r.none_given;
+  })
+
   pub crew_passed : (from to k : ℕ) (journal : List Event) (looks : List (Option Looked)) → from ≤ to → HasNone lines from to (k + 1)
       → CrewAt law state spells lines from to k journal looks seat desks workers → CrewAt law state spells lines from to (k + 1) journal looks seat desks workers
   crew_passed from to k journal looks range none h = record {
     home = h.home;
-    course = h.course;
-    counts = h.counts;
-    journal_is = h.journal_is;
-    lines_are = h.lines_are;
+    courses = h.courses;
+    phase = h.phase;
     begins = h.begins;
+    lines_are = h.lines_are;
+    starts = h.starts;
     ends = h.ends;
-    ok = h.ok;
+    long = h.long;
+    made = h.made;
+    seals = h.seals;
+    behind = h.behind;
+    seen = h.seen;
     had = λ j w low at. by j w at (cases_lt j k) low;
     waits = λ j w high at. h.waits j w (omega (arith, high)) at;
-    sees = h.sees;
   }
     where
-      by : (j : ℕ) (w : A) → slice_get workers j ≡ Some w → (j < k) ⊎ (k ≤ j) → j < k + 1 → Rests law state spells lines h.home (length workers) h.course h.counts looks (j + 1) to (h.course.phase + 1) (seat w) (desks w)
+      by : (j : ℕ) (w : A) → slice_get workers j ≡ Some w → (j < k) ⊎ (k ≤ j) → j < k + 1 → Rests law state spells lines h.home (length workers) (h.courses (j + 1)) looks (j + 1) to (h.phase + 1) (seat w) (desks w)
       by j w at (inl low) under = h.had j w low at
       by j w at (inr high) under =
           let same : k ≡ j = omega (arith, high, under) in
-          let r = h.waits j w high at in
-          record {
-            worker = phase_passed law state spells lines h.home (length workers) h.course h.counts looks (j + 1) from to (seat w) (desks w) range h.begins (subst (λ i. HasNone lines from to (i + 1)) same none) r.worker;
-            none_given = r.none_given;
-          }
+          passes h.home (h.courses (j + 1)) looks (j + 1) from to h.phase w (seen_at h.seen j w at).phase_is range h.starts (subst (λ i. HasNone lines from to (i + 1)) same none) (h.waits j w high at)
+
+  -- A node had events, and its course went on, to where it rests; so did those of the others.
+  module _ (run : MayRun law) (home : ℕ → ℕ) (courses : ℕ → NodeCourse) (phase : ℕ) (begins : List (List Event)) (to done k : ℕ) (journal journal' : List Event) (looks looks' : List (Option Looked)) (w w' : A) (at : slice_get workers k ≡ Some w) (all : (n : ℕ) → 1 ≤ n → n ≤ length workers → HasSeenAll phase begins journal (courses n)) (since : OwnSince (k + 1) journal journal') (keeps : KeepsOthers lines (k + 1) looks looks') (t : HasRested law state spells lines home (length workers) (courses (k + 1)) looks' (k + 1) to done journal' (seat w') (desks w')) where
+    abbrev pub then_courses : ℕ → NodeCourse
+    then_courses m = courses_then courses (k + 1) t.course since.more m
+
+    me : HasSeenAll phase begins journal (courses (k + 1))
+    me = seen_at all k w at
+
+    own_or_other : (n : ℕ) → (n ≡ k + 1) ⊎ (n ≢ k + 1)
+    own_or_other n = by (n == k + 1) refl
+      where
+        by : (b : Bool) → (n == k + 1) ≡ b → (n ≡ k + 1) ⊎ (n ≢ k + 1)
+        by true is = inl (eqb-true n (k + 1) is)
+        by false is = inr (λ same. let clash : true ≡ false = sym (eq-eqb n (k + 1) same) ∙ is in cc)
+
+    pub then_seen : (n : ℕ) → 1 ≤ n → n ≤ length workers → HasSeenAll phase begins journal' (then_courses n)
+    then_seen n least most = by (own_or_other n) (all n least most)
+      where
+        by : (n ≡ k + 1) ⊎ (n ≢ k + 1) → HasSeenAll phase begins journal (courses n) → HasSeenAll phase begins journal' (then_courses n)
+        by (inl same) s = subst (HasSeenAll phase begins journal') (sym (ap (λ m. then_courses m) same ∙ course_own courses (k + 1) t.course since.more))
+            (record { phase_is = t.goes.phase ∙ me.phase_is; begins_are = t.goes.begins ∙ me.begins_are; seen_is = t.seen_is })
+        by (inr apart) s = subst (HasSeenAll phase begins journal') (sym (course_other courses (k + 1) n t.course since.more apart))
+            (record { phase_is = s.phase_is; begins_are = s.begins_are; seen_is = ap (λ j. j ++ since.more) s.seen_is ∙ sym since.seen })
+
+    pub then_others : (j begin over : ℕ) (x : A) → j ≢ k → slice_get workers j ≡ Some x → Rests law state spells lines home (length workers) (courses (j + 1)) looks (j + 1) begin over (seat x) (desks x)
+        → Rests law state spells lines home (length workers) (then_courses (j + 1)) looks' (j + 1) begin over (seat x) (desks x)
+    then_others j begin over x other is r =
+        let apart : j + 1 ≢ k + 1 = λ same. other (omega (arith, same)) in
+        subst (λ c. Rests law state spells lines home (length workers) c looks' (j + 1) begin over (seat x) (desks x)) (sym (course_other courses (k + 1) (j + 1) t.course since.more apart))
+        (rests_on law state spells run lines home (length workers) (courses (j + 1)) looks looks' (k + 1) (j + 1) begin over journal journal' (seat x) (desks x) since apart (seen_at all j x is).seen_is
+        (subst (IsLegal law) t.seen_is t.rests.node.did.legal) keeps r)
+
+    pub then_own : Rests law state spells lines home (length workers) (then_courses (k + 1)) looks' (k + 1) to done (seat w') (desks w')
+    then_own = subst (λ c. Rests law state spells lines home (length workers) c looks' (k + 1) to done (seat w') (desks w')) (sym (course_own courses (k + 1) t.course since.more)) t.rests
+
+    pub then_size : length (slice_set workers k w') ≡ length workers
+    then_size = length-set workers k w'
+
+    pub then_seals : SealsOfNodes (length workers) journal → SealsOfNodes (length workers) journal'
+    then_seals h = seals_more (length workers) (k + 1) journal journal' (omega arith) (let inside = slice_get_within workers k w at in omega (arith, inside)) since h
+
+    pub then_behind : AreBehind journal → AreBehind journal'
+    then_behind h = subst AreBehind t.seen_is (t.rests.node.did.behind journal (record { more = since.more; seen = t.seen_is ∙ since.seen; own = since.own }) h)
 
   -- a node has had its turn
   pub crew_turned : MayRun law → (from to k : ℕ) (journal journal' : List Event) (looks looks' : List (Option Looked)) (w w' : A) → slice_get workers k ≡ Some w
       → (h : CrewAt law state spells lines from to k journal looks seat desks workers)
-      → TurnWent law state spells lines h.home (length workers) h.course h.counts looks looks' (k + 1) to journal' (seat w') (desks w')
+      → OwnSince (k + 1) journal journal' → HasOne lines from to (k + 1) → KeepsOthers lines (k + 1) looks looks'
+      → HasRested law state spells lines h.home (length workers) (h.courses (k + 1)) looks' (k + 1) to ((h.courses (k + 1)).phase + 1) journal' (seat w') (desks w')
       → CrewAt law state spells lines from to (k + 1) journal' looks' seat desks (slice_set workers k w')
-  crew_turned run from to k journal journal' looks looks' w w' at h t = record {
+  crew_turned run from to k journal journal' looks looks' w w' at h since one keeps t = record {
     home = h.home;
-    course = t.course;
-    counts = t.sent;
-    journal_is = t.journal_is;
+    courses = λ m. courses_then h.courses (k + 1) t.course since.more m;
+    phase = h.phase;
+    begins = h.begins;
     lines_are = subst (AreLines lines h.home) (sym size) h.lines_are;
-    begins = subst (BeginsAt lines from) (sym t.turn.phase) h.begins;
-    ends = subst (λ p. BeginsAt lines to (p + 1)) (sym t.turn.phase) h.ends;
-    ok = subst (λ n. CourseOk law lines n t.course t.sent looks') (sym size) t.ok;
-    had = λ j x low is. subst (λ n. Rests law state spells lines h.home n t.course t.sent looks' (j + 1) to (t.course.phase + 1) (seat x) (desks x)) (sym size) (had j x low (changed workers k j w w' x at is));
-    waits = λ j x high is. subst (λ n. Rests law state spells lines h.home n t.course t.sent looks' (j + 1) from t.course.phase (seat x) (desks x)) (sym size) (waits j x high (changed workers k j w w' x at is));
-    sees = λ calm. record { at = k; one = w'; is = here; upto = t.sees calm.told (calm.disks k w' here) };
+    starts = h.starts;
+    ends = h.ends;
+    long = h.long;
+    made = λ i l get low. made i l get low (cases_lt l.phase h.phase);
+    seals = subst (λ n. SealsOfNodes n journal') (sym size) (then_seals run h.home h.courses h.phase h.begins to ((h.courses (k + 1)).phase + 1) k journal journal' looks looks' w w' at h.seen since keeps t h.seals);
+    behind = then_behind run h.home h.courses h.phase h.begins to ((h.courses (k + 1)).phase + 1) k journal journal' looks looks' w w' at h.seen since keeps t h.behind;
+    seen = λ n least most. then_seen run h.home h.courses h.phase h.begins to ((h.courses (k + 1)).phase + 1) k journal journal' looks looks' w w' at h.seen since keeps t n least (omega (arith, most, size));
+    had = λ j x low is. subst (λ n. Rests law state spells lines h.home n (courses_then h.courses (k + 1) t.course since.more (j + 1)) looks' (j + 1) to (h.phase + 1) (seat x) (desks x)) (sym size) (had j x low (changed workers k j w w' x at is));
+    waits = λ j x high is. subst (λ n. Rests law state spells lines h.home n (courses_then h.courses (k + 1) t.course since.more (j + 1)) looks' (j + 1) from h.phase (seat x) (desks x)) (sym size) (waits j x high (changed workers k j w w' x at is));
   }
     where
       size : length (slice_set workers k w') ≡ length workers
       size = length-set workers k w'
 
-      here : slice_get (slice_set workers k w') k ≡ Some w'
-      here = set_same workers k w' w at
+      -- the node had a line of the phase
+      made : (i : ℕ) (l : NamedLine) → slice_get lines i ≡ Some l → l.phase ≤ h.phase → (l.phase < h.phase) ⊎ (h.phase ≤ l.phase) → AreAtWork lines l.phase (get_or h.begins l.phase journal') (get_or h.begins (l.phase + 1) journal')
+      made i l get low (inl early) = worked_before lines h.phase h.begins journal journal' l.phase h.long (omega (arith, early)) (h.made i l get low)
+      made i l get low (inr late) =
+          let same : h.phase ≡ l.phase = omega (arith, low, late) in
+          subst (λ p. AreAtWork lines p (get_or h.begins p journal') (get_or h.begins (p + 1) journal')) same
+          (worked_now lines h.phase (k + 1) h.begins journal journal' h.long (has_line_in lines from to h.phase (k + 1) h.starts h.ends one) since
+          (subst (λ p. AreAtWork lines p (get_or h.begins p journal) (get_or h.begins (p + 1) journal)) (sym same) (h.made i l get low)))
 
-      on : (j begin done : ℕ) (x : A) → j ≢ k → BeginsAt lines begin done → done ≤ h.course.phase + 1 → Rests law state spells lines h.home (length workers) h.course h.counts looks (j + 1) begin done (seat x) (desks x)
-          → Rests law state spells lines h.home (length workers) t.course t.sent looks' (j + 1) begin done (seat x) (desks x)
-      on j begin done x other b low r =
-          rests_on law state spells lines h.home (length workers) h.course t.course h.counts t.sent looks looks' (k + 1) (j + 1) begin done (seat x) (desks x) h.lines_are (apart j k other) b low h.ok t.turn t.ok r
+      on : (j begin over : ℕ) (x : A) → j ≢ k → slice_get workers j ≡ Some x → Rests law state spells lines h.home (length workers) (h.courses (j + 1)) looks (j + 1) begin over (seat x) (desks x)
+          → Rests law state spells lines h.home (length workers) (courses_then h.courses (k + 1) t.course since.more (j + 1)) looks' (j + 1) begin over (seat x) (desks x)
+      on j begin over x other is r = then_others run h.home h.courses h.phase h.begins to ((h.courses (k + 1)).phase + 1) k journal journal' looks looks' w w' at h.seen since keeps t j begin over x other is r
 
-      had : (j : ℕ) (x : A) → j < k + 1 → ((j ≡ k) × (w' ≡ x)) ⊎ ((j ≢ k) × (slice_get workers j ≡ Some x)) → Rests law state spells lines h.home (length workers) t.course t.sent looks' (j + 1) to (t.course.phase + 1) (seat x) (desks x)
+      mine : Rests law state spells lines h.home (length workers) (courses_then h.courses (k + 1) t.course since.more (k + 1)) looks' (k + 1) to (h.phase + 1) (seat w') (desks w')
+      mine = subst (λ p. Rests law state spells lines h.home (length workers) (courses_then h.courses (k + 1) t.course since.more (k + 1)) looks' (k + 1) to (p + 1) (seat w') (desks w')) (seen_at h.seen k w at).phase_is
+          (then_own run h.home h.courses h.phase h.begins to ((h.courses (k + 1)).phase + 1) k journal journal' looks looks' w w' at h.seen since keeps t)
+
+      had : (j : ℕ) (x : A) → j < k + 1 → ((j ≡ k) × (w' ≡ x)) ⊎ ((j ≢ k) × (slice_get workers j ≡ Some x)) → Rests law state spells lines h.home (length workers) (courses_then h.courses (k + 1) t.course since.more (j + 1)) looks' (j + 1) to (h.phase + 1) (seat x) (desks x)
       had j x low (inl same) =
-          subst (λ y. Rests law state spells lines h.home (length workers) t.course t.sent looks' (j + 1) to (t.course.phase + 1) (seat y) (desks y)) same.1
-          (subst (λ i. Rests law state spells lines h.home (length workers) t.course t.sent looks' (i + 1) to (t.course.phase + 1) (seat w') (desks w')) (sym same.0) t.rests)
-      had j x low (inr other) =
-          let less : j < k = by (cases_lt j k) in
-          subst (λ p. Rests law state spells lines h.home (length workers) t.course t.sent looks' (j + 1) to (p + 1) (seat x) (desks x)) (sym t.turn.phase)
-          (on j to (h.course.phase + 1) x other.0 h.ends (omega arith) (h.had j x less other.1))
+          subst (λ y. Rests law state spells lines h.home (length workers) (courses_then h.courses (k + 1) t.course since.more (j + 1)) looks' (j + 1) to (h.phase + 1) (seat y) (desks y)) same.1
+          (subst (λ i. Rests law state spells lines h.home (length workers) (courses_then h.courses (k + 1) t.course since.more (i + 1)) looks' (i + 1) to (h.phase + 1) (seat w') (desks w')) (sym same.0) mine)
+      had j x low (inr other) = on j to (h.phase + 1) x other.0 other.1 (h.had j x (by (cases_lt j k)) other.1)
         where
           by : (j < k) ⊎ (k ≤ j) → j < k
           by (inl less) = less
           by (inr high) = absurd (other.0 (omega (arith, high, low)))
 
-      waits : (j : ℕ) (x : A) → k + 1 ≤ j → ((j ≡ k) × (w' ≡ x)) ⊎ ((j ≢ k) × (slice_get workers j ≡ Some x)) → Rests law state spells lines h.home (length workers) t.course t.sent looks' (j + 1) from t.course.phase (seat x) (desks x)
+      waits : (j : ℕ) (x : A) → k + 1 ≤ j → ((j ≡ k) × (w' ≡ x)) ⊎ ((j ≢ k) × (slice_get workers j ≡ Some x)) → Rests law state spells lines h.home (length workers) (courses_then h.courses (k + 1) t.course since.more (j + 1)) looks' (j + 1) from h.phase (seat x) (desks x)
       waits j x high (inl same) = absurd (omega (arith, high, same.0))
-      waits j x high (inr other) =
-          subst (λ p. Rests law state spells lines h.home (length workers) t.course t.sent looks' (j + 1) from p (seat x) (desks x)) (sym t.turn.phase)
-          (on j from h.course.phase x other.0 h.begins (omega arith) (h.waits j x (omega (arith, high)) other.1))
+      waits j x high (inr other) = on j from h.phase x other.0 other.1 (h.waits j x (omega (arith, high)) other.1)
 
   -- one node came to a later journal, at which the others can take the fabric too
   pub still_stands : (k : ℕ) (journal journal' : List Event) (w w' : A) → slice_get workers k ≡ Some w → Grows journal journal'
@@ -187,28 +270,26 @@ module _ {A : Type 0} (law : Law) (state : List Entry → SpaceMap → Type 0) (
       → CrewRests law state spells lines from phase journal looks seat desks workers → CrewAt law state spells lines from to 0 journal looks seat desks workers
   crew_begins from to phase journal looks range e h = record {
     home = h.home;
-    course = h.course;
-    counts = h.counts;
-    journal_is = h.journal_is;
+    courses = h.courses;
+    phase = phase;
+    begins = h.begins;
     lines_are = h.lines_are;
-    begins = subst (BeginsAt lines from) (sym h.phase_is) h.begins;
-    ends = subst (λ p. BeginsAt lines to (p + 1)) (sym h.phase_is) (record {
+    starts = h.ends;
+    ends = record {
       before = λ i l at low. before i l at low (cases_lt i from);
-      behind = λ i l at high. behind i l at high (some_at lines to (let inside = slice_get_within lines i l at in omega (arith, inside, high)));
-    });
-    ok = h.ok;
+      behind = λ i l at high. behind i l at high (some_of lines to (let inside = slice_get_within lines i l at in omega (arith, inside, high)));
+    };
+    long = h.long;
+    made = h.made;
+    seals = h.seals;
+    behind = h.behind;
+    seen = h.seen;
     had = λ j w low at. absurd (omega (arith, low));
-    waits = λ j w high at. subst (λ p. Rests law state spells lines h.home (length workers) h.course h.counts looks (j + 1) from p (seat w) (desks w)) (sym h.phase_is) (h.each j w at);
-    sees = h.sees;
+    waits = λ j w high at. h.each j w at;
   }
     where
-      some_at : (ls : List NamedLine) (i : ℕ) → i < length ls → (l : NamedLine) × (slice_get ls i ≡ Some l)
-      some_at [] i low = absurd (omega arith)
-      some_at (l ∷ ls) zero low = (l, refl)
-      some_at (l ∷ ls) (suc i) low = some_at ls i (omega arith)
-
       before : (i : ℕ) (l : NamedLine) → slice_get lines i ≡ Some l → i < to → (i < from) ⊎ (from ≤ i) → l.phase < phase + 1
-      before i l at low (inl early) = let h1 = h.begins.before i l at early in omega (arith, h1)
+      before i l at low (inl early) = let h1 = h.ends.before i l at early in omega (arith, h1)
       before i l at low (inr late) = let h1 = e.inside i l late low at in omega (arith, h1)
 
       behind : (i : ℕ) (l : NamedLine) → slice_get lines i ≡ Some l → to ≤ i → (m : NamedLine) × (slice_get lines to ≡ Some m) → phase + 1 ≤ l.phase
@@ -219,66 +300,66 @@ module _ {A : Type 0} (law : Law) (state : List Entry → SpaceMap → Type 0) (
 
   -- a phase has ended
   pub crew_ends : (from to : ℕ) (journal : List Event) (looks : List (Option Looked))
-      → (h : CrewAt law state spells lines from to (length workers) journal looks seat desks workers) → CrewRests law state spells lines to (h.course.phase + 1) journal looks seat desks workers
+      → (h : CrewAt law state spells lines from to (length workers) journal looks seat desks workers) → CrewRests law state spells lines to (h.phase + 1) journal looks seat desks workers
   crew_ends from to journal looks h = record {
     home = h.home;
-    course = next_phase h.course;
-    counts = h.counts;
-    journal_is = h.journal_is;
-    phase_is = refl;
+    courses = λ n. next_phase (h.courses n);
+    begins = h.begins ++ journal ∷ [];
     lines_are = h.lines_are;
-    begins = h.ends;
-    ok = course_begins law lines (length workers) h.course h.counts looks sent h.ok;
-    each = λ j w at. rests_then h.course law state spells lines h.home (length workers) h.counts looks (j + 1) to (h.course.phase + 1) (seat w) (desks w) (h.had j w (within j w at) at);
-    sees = h.sees;
+    ends = h.ends;
+    long = length-append h.begins (journal ∷ []) ∙ ap (λ n. n + 1) h.long;
+    made = λ i l at low. made i l at low (cases_lt h.phase l.phase);
+    seals = h.seals;
+    behind = h.behind;
+    seen = λ n least most. seen n (h.seen n least most);
+    each = λ j w at. each j w at (seen_at h.seen j w at);
   }
     where
-      within : (j : ℕ) (w : A) → slice_get workers j ≡ Some w → j < length workers
-      within j w at = slice_get_within workers j w at
-
-      worker_at : (xs : List A) (i : ℕ) → i < length xs → (w : A) × (slice_get xs i ≡ Some w)
-      worker_at [] i low = absurd (omega arith)
-      worker_at (x ∷ xs) zero low = (x, refl)
-      worker_at (x ∷ xs) (suc i) low = worker_at xs i (omega arith)
-
-      by_home : (s n : ℕ) → h.home s ≡ n + 1 → s < 64 → sent_of h.counts s ≤ asked_before lines s (h.course.phase + 1)
-      by_home s n is low =
-          let there : n < length workers = let most = h.lines_are.within s in omega (arith, most, is) in
-          let w = worker_at workers n there in
-          sent_asked law state spells lines h.home (length workers) h.course h.counts looks s to (h.course.phase + 1) (seat w.0) (desks w.0) h.ends low
-          (subst (λ k. Rests law state spells lines h.home (length workers) h.course h.counts looks k to (h.course.phase + 1) (seat w.0) (desks w.0)) (sym is) (h.had n w.0 there w.1))
-
-      sent : (s : ℕ) → sent_of h.counts s ≤ asked_before lines s (h.course.phase + 1)
-      sent s = by (cases_lt s 64) (h.home s) refl
+      -- in the next phase nothing has happened yet
+      made : (i : ℕ) (l : NamedLine) → slice_get lines i ≡ Some l → l.phase ≤ h.phase + 1 → (h.phase < l.phase) ⊎ (l.phase ≤ h.phase)
+          → AreAtWork lines l.phase (get_or (h.begins ++ journal ∷ []) l.phase journal) (get_or (h.begins ++ journal ∷ []) (l.phase + 1) journal)
+      made i l at low (inr old) =
+          subst (λ j. AreAtWork lines l.phase j (get_or (h.begins ++ journal ∷ []) (l.phase + 1) journal)) (sym (get_pushed h.begins l.phase journal))
+          (subst (AreAtWork lines l.phase (get_or h.begins l.phase journal)) (sym (get_pushed h.begins (l.phase + 1) journal)) (h.made i l at old))
+      made i l at low (inl new) =
+          subst (λ j. AreAtWork lines l.phase j (get_or (h.begins ++ journal ∷ []) (l.phase + 1) journal)) (sym (now l.phase new))
+          (subst (AreAtWork lines l.phase journal) (sym (now (l.phase + 1) (omega (arith, new)))) (at_work_none lines l.phase journal))
         where
-          by : (s < 64) ⊎ (64 ≤ s) → (n : ℕ) → h.home s ≡ n → sent_of h.counts s ≤ asked_before lines s (h.course.phase + 1)
-          by (inr high) n is = let none = none_sent h.counts s (omega (arith, high, h.ok.long)) in omega (arith, none)
-          by (inl low) zero is = absurd (let least = h.lines_are.there s in omega (arith, least, is))
-          by (inl low) (suc n) is = by_home s n (is ∙ (let e : suc n ≡ n + 1 = omega arith in e)) low
+          now : (p : ℕ) → h.phase < p → get_or (h.begins ++ journal ∷ []) p journal ≡ journal
+          now p high = get_pushed h.begins p journal ∙ get_beyond h.begins p journal (let long = h.long in omega (arith, long, high))
+
+      seen : (n : ℕ) → HasSeenAll h.phase h.begins journal (h.courses n) → HasSeenAll (h.phase + 1) (h.begins ++ journal ∷ []) journal (next_phase (h.courses n))
+      seen n s = record {
+        phase_is = ap (λ p. p + 1) s.phase_is;
+        begins_are = ap (λ b. b ++ (h.courses n).seen ∷ []) s.begins_are ∙ ap (λ j. h.begins ++ j ∷ []) s.seen_is;
+        seen_is = s.seen_is;
+      }
+
+      each : (j : ℕ) (w : A) → slice_get workers j ≡ Some w → HasSeenAll h.phase h.begins journal (h.courses (j + 1))
+          → Rests law state spells lines h.home (length workers) (next_phase (h.courses (j + 1))) looks (j + 1) to (h.phase + 1) (seat w) (desks w)
+      each j w at s = subst (λ p. Rests law state spells lines h.home (length workers) (next_phase (h.courses (j + 1))) looks (j + 1) to (p + 1) (seat w) (desks w)) s.phase_is
+          (rests_then law state spells lines h.home (length workers) (h.courses (j + 1)) looks (j + 1) to (seat w) (desks w) (subst (λ p. BeginsAt lines to (p + 1)) (sym s.phase_is) h.ends)
+          (subst (λ p. Rests law state spells lines h.home (length workers) (h.courses (j + 1)) looks (j + 1) to (p + 1) (seat w) (desks w)) (sym s.phase_is) (h.had j w (slice_get_within workers j w at) at)))
 
   -- all nodes pass by a phase without a line
-  abbrev all_pass : (from phase : ℕ) (journal : List Event) (looks : List (Option Looked)) → BeginsAt lines from (phase + 1)
-      → CrewRests law state spells lines from phase journal looks seat desks workers → CrewAt law state spells lines from from (length workers) journal looks seat desks workers
-  all_pass from phase journal looks b h = record {
+  all_pass : (from phase : ℕ) (journal : List Event) (looks : List (Option Looked)) → BeginsAt lines from (phase + 1)
+      → CrewRests law state spells lines from phase journal looks seat desks workers → CrewRests law state spells lines from (phase + 1) journal looks seat desks workers
+  all_pass from phase journal looks b h = crew_ends from from journal looks (record {
     home = h.home;
-    course = h.course;
-    counts = h.counts;
-    journal_is = h.journal_is;
+    courses = h.courses;
+    phase = phase;
+    begins = h.begins;
     lines_are = h.lines_are;
-    begins = begins;
-    ends = subst (λ p. BeginsAt lines from (p + 1)) (sym h.phase_is) b;
-    ok = h.ok;
-    had = λ j w low at. record {
-      worker = phase_passed law state spells lines h.home (length workers) h.course h.counts looks (j + 1) from from (seat w) (desks w) (omega arith) begins (λ i l more less get. absurd (omega (arith, more, less)))
-          (subst (λ p. WorkerAt law state spells lines h.home (length workers) h.course h.counts looks (j + 1) from from p (seat w) (desks w)) (sym h.phase_is) (h.each j w at).worker);
-      none_given = (h.each j w at).none_given;
-    };
+    starts = h.ends;
+    ends = b;
+    long = h.long;
+    made = h.made;
+    seals = h.seals;
+    behind = h.behind;
+    seen = h.seen;
+    had = λ j w low at. passes h.home (h.courses (j + 1)) looks (j + 1) from from phase w (seen_at h.seen j w at).phase_is (omega arith) h.ends (λ i l more less get. absurd (omega (arith, more, less))) (h.each j w at);
     waits = λ j w high at. absurd (let inside = slice_get_within workers j w at in omega (arith, inside, high));
-    sees = h.sees;
-  }
-    where
-      begins : BeginsAt lines from h.course.phase
-      begins = subst (BeginsAt lines from) (sym h.phase_is) h.begins
+  })
 
   -- .. and by as many as there are
   pub crew_skips : (from n phase : ℕ) (journal : List Event) (looks : List (Option Looked)) → BeginsAt lines from (phase + n)
@@ -286,23 +367,21 @@ module _ {A : Type 0} (law : Law) (state : List Entry → SpaceMap → Type 0) (
   crew_skips from zero phase journal looks b h = let e : phase ≡ phase + zero = omega arith in subst (λ p. CrewRests law state spells lines from p journal looks seat desks workers) e h
   crew_skips from (suc n) phase journal looks b h =
       let one : BeginsAt lines from (phase + 1) = record {
-        before = λ i l at low. let early = h.begins.before i l at low in omega (arith, early);
+        before = λ i l at low. let early = h.ends.before i l at low in omega (arith, early);
         behind = λ i l at high. let late = b.behind i l at high in omega (arith, late);
       } in
       let same : (phase + 1) + n ≡ phase + suc n = omega arith in
       subst (λ p. CrewRests law state spells lines from p journal looks seat desks workers) same
-      (crew_skips from n (phase + 1) journal looks (subst (BeginsAt lines from) (sym same) b)
-      (subst (λ p. CrewRests law state spells lines from (p + 1) journal looks seat desks workers) h.phase_is
-      (crew_ends from from journal looks (all_pass from phase journal looks one h))))
+      (crew_skips from n (phase + 1) journal looks (subst (BeginsAt lines from) (sym same) b) (all_pass from phase journal looks one h))
 
   -- the lines behind are of the first one's phase or of a later one
   pub crew_comes : (from phase : ℕ) (journal : List Event) (looks : List (Option Looked)) (line : NamedLine) → slice_get lines from ≡ Some line
       → CrewRests law state spells lines from phase journal looks seat desks workers → CrewRests law state spells lines from line.phase journal looks seat desks workers
   crew_comes from phase journal looks line at h =
-      let up = h.begins.behind from line at (omega arith) in
+      let up = h.ends.behind from line at (omega arith) in
       let is : phase + (line.phase - phase) ≡ line.phase = omega (arith, up) in
       subst (λ p. CrewRests law state spells lines from p journal looks seat desks workers) is
       (crew_skips from (line.phase - phase) phase journal looks (subst (BeginsAt lines from) (sym is) (record {
-        before = λ i l get low. let early = h.begins.before i l get low in omega (arith, early, up);
+        before = λ i l get low. let early = h.ends.before i l get low in omega (arith, early, up);
         behind = λ i l get high. phase_before lines h.home (length workers) h.lines_are from i line l at get high;
       })) h)

@@ -1,4 +1,4 @@
 pub mod Ok
 pub mod Playing
+pub mod Working
 pub mod Crews
-pub mod Seeing

@@ -1,91 +1,94 @@
 -- A node's turn, from line to line.
-use Rattle.std.proofs.Common.{◌≡◌, refl, sym, ap, subst, ℕ, ◌+◌, ◌<◌, ◌≤◌, false, List, [], ◌∷◌, ◌++◌, Option, Some, arith}
-use Rattle.std.specs.Prelude.{◌==◌, slice_get}
+use Rattle.std.proofs.Common.{◌≡◌, ◌≢◌, refl, sym, ap, ◌∙◌, subst, ℕ, ◌+◌, ◌<◌, ◌≤◌, true, false, List, [], ◌∷◌, Option, Some, arith, eq-eqb}
+use Rattle.std.specs.Prelude.{◌==◌, slice_get, slice_set, length}
+use Rattle.std.proofs.lemmas.List.{length-set}
+use Rattle.fabric_core.proofs.Marks.{set_other}
 use Rattle.delos_types.specs.Spaces.{SpaceMap}
 use Rattle.delos_types.specs.declared.entry.Entry.{Entry}
 use Rattle.legal_journal.specs.Law.{Law}
 use Rattle.legal_journal.specs.declared.events.Event.{Event}
+use Rattle.legal_journal.specs.Turns.{AreOthers}
 use Rattle.replica_api.specs.Replica.{Saved}
 use Rattle.script_text.specs.declared.asks.NamedLine.{NamedLine}
-use Rattle.legal_journal.specs.Sealing.{Unsealed}
-use Rattle.journal_laws.specs.Changes.{TrimsUpTo}
-use Rattle.turn_scopes.specs.Alone.{IsAlone, OwnSince}
+use Rattle.virtual_log.specs.Sealing.{SealsNone}
+use Rattle.turn_scopes.specs.Alone.{AreOwn}
+use Rattle.turn_scopes.specs.Floors.{FloorIs}
 use Rattle.turn_scopes.specs.Seats.{SeatView, SeatOk}
-use Rattle.turn_scopes.proofs.Alone.{own_since, unsealed_own}
 use Rattle.turn_scopes.proofs.Seals.{seals_none}
 use Rattle.node_lines.specs.declared.desk.Desk.{Desk}
 use Rattle.node_lines.specs.declared.lines.Looked.{Looked}
-use Rattle.node_lines.specs.Workers.{Grows, IsKept, WorkerOk, sent_by}
+use Rattle.node_lines.specs.Workers.{HasNotLeft, IsKept, MayRun, WorkerOk, sent_by}
 use Rattle.node_lines.specs.Steps.{IsLeft}
-use Rattle.node_lines.proofs.Keeping.{kept_alone}
-use Rattle.node_lines.proofs.Widening.{grows-since}
 use Rattle.node_lines.proofs.Scoping.{seat_allowed}
-use Rattle.run_course.specs.Script.{BeginsAt}
-use Rattle.run_course.specs.Course.{Course}
-use Rattle.run_course.specs.Workers.{IsUnderWay, LineWent}
-use Rattle.run_course.proofs.Passing.{another_line}
-use Rattle.run_course.proofs.Joining.{no_turn, turns_join}
+use Rattle.node_course.specs.Script.{BeginsAt}
+use Rattle.node_course.specs.Moments.{NodeCourse}
+use Rattle.node_course.specs.Workers.{CanPlay, LineWent}
+use Rattle.node_course.proofs.Joining.{goes_none, goes_both}
+use Rattle.node_course.proofs.Lines.{at_get}
+use Rattle.node_course.proofs.Passing.{another_line}
+use Rattle.node_course.proofs.Turning.{not_left, trims_low}
+use Rattle.node_crew.specs.Turns.{HasOne, IsUnderWay, KeepsBut, KeepsOthers}
 
 -- a node with its sessions can take the fabric
 pub worker_stands : (law : Law) (state : List Entry → SpaceMap → Type 0) (spells : List ℕ → Saved → Type 0) (who : ℕ) (journal : List Event) (seat : SeatView) (desks : List Desk)
     → WorkerOk law state spells who journal seat desks → SeatOk law state spells journal seat
 worker_stands law state spells who journal seat desks h = seat_allowed law who (sent_by desks) state spells journal seat h.ok
 
-module _ (law : Law) (state : List Entry → SpaceMap → Type 0) (spells : List ℕ → Saved → Type 0) (lines : List NamedLine) (home : ℕ → ℕ) (nodes : ℕ) (c : Course) (counts : List ℕ) (looks : List (Option Looked)) (n from : ℕ) where
+module _ (law : Law) (state : List Entry → SpaceMap → Type 0) (spells : List ℕ → Saved → Type 0) (lines : List NamedLine) (home : ℕ → ℕ) (nodes : ℕ) (c : NodeCourse) (n from : ℕ) where
   -- no line was played yet
-  pub none_went : (journal : List Event) (seat : SeatView) (desks : List Desk) → IsUnderWay law state spells lines home nodes c counts looks n from from journal seat desks
-      → LineWent law state spells lines home nodes c counts looks looks n from from journal seat desks
-  none_went journal seat desks u = record {
+  pub none_went : (looks : List (Option Looked)) (journal : List Event) (seat : SeatView) (desks : List Desk) → IsUnderWay law state spells lines home nodes c looks n from from journal seat desks
+      → LineWent law state spells lines home nodes c looks n from from journal seat desks
+  none_went looks journal seat desks u = record {
     course = c;
-    sent = counts;
-    journal_is = u.journal_is;
-    ok = u.ok;
-    turn = no_turn lines home n c counts looks;
-    worker = u.worker;
-    high = u.high;
+    seen_is = u.seen_is;
+    goes = goes_none c;
+    node = u.node;
   }
 
   -- so far it is the node's turn
-  pub under_way : (looks' : List (Option Looked)) (i : ℕ) (early journal : List Event) (seat seat' : SeatView) (desks desks' : List Desk) → IsUnderWay law state spells lines home nodes c counts looks n from from early seat desks
-      → (w : LineWent law state spells lines home nodes c counts looks looks' n from i journal seat' desks') → IsUnderWay law state spells lines home nodes w.course w.sent looks' n from i journal seat' desks'
-  under_way looks' i early journal seat seat' desks desks' u w = record {
-    journal_is = w.journal_is;
+  pub under_way : (looks looks' : List (Option Looked)) (i : ℕ) (early journal : List Event) (seat seat' : SeatView) (desks desks' : List Desk) → IsUnderWay law state spells lines home nodes c looks n from from early seat desks
+      → (w : LineWent law state spells lines home nodes c looks' n from i journal seat' desks') → IsUnderWay law state spells lines home nodes w.course looks' n from i journal seat' desks'
+  under_way looks looks' i early journal seat seat' desks desks' u w = record {
+    seen_is = w.seen_is;
     lines_are = u.lines_are;
-    least = u.least;
-    most = u.most;
-    begins = subst (BeginsAt lines from) (sym w.turn.phase) u.begins;
-    ok = w.ok;
-    worker = w.worker;
-    high = w.high;
+    begins = subst (BeginsAt lines from) (sym w.goes.phase) u.begins;
+    node = w.node;
   }
 
   -- one more line
   pub then_went : (looks' looks'' : List (Option Looked)) (i : ℕ) (journal journal' : List Event) (seat seat' : SeatView) (desks desks' : List Desk)
-      → (w : LineWent law state spells lines home nodes c counts looks looks' n from i journal seat desks)
-      → LineWent law state spells lines home nodes w.course w.sent looks' looks'' n from (i + 1) journal' seat' desks'
-      → LineWent law state spells lines home nodes c counts looks looks'' n from (i + 1) journal' seat' desks'
+      → (w : LineWent law state spells lines home nodes c looks' n from i journal seat desks)
+      → LineWent law state spells lines home nodes w.course looks'' n from (i + 1) journal' seat' desks'
+      → LineWent law state spells lines home nodes c looks'' n from (i + 1) journal' seat' desks'
   then_went looks' looks'' i journal journal' seat seat' desks desks' w v = record {
     course = v.course;
-    sent = v.sent;
-    journal_is = v.journal_is;
-    ok = v.ok;
-    turn = turns_join lines home n c w.course v.course counts w.sent v.sent looks looks' looks'' w.turn v.turn;
-    worker = v.worker;
-    high = v.high;
+    seen_is = v.seen_is;
+    goes = goes_both c w.course v.course w.goes v.goes;
+    node = v.node;
   }
 
   -- a line of another node
   pub passed_by : (looks' : List (Option Looked)) (i : ℕ) (line : NamedLine) (journal : List Event) (seat : SeatView) (desks : List Desk) → slice_get lines i ≡ Some line → (line.node == n) ≡ false
-      → LineWent law state spells lines home nodes c counts looks looks' n from i journal seat desks → LineWent law state spells lines home nodes c counts looks looks' n from (i + 1) journal seat desks
+      → LineWent law state spells lines home nodes c looks' n from i journal seat desks → LineWent law state spells lines home nodes c looks' n from (i + 1) journal seat desks
   passed_by looks' i line journal seat desks at other w = record {
     course = w.course;
-    sent = w.sent;
-    journal_is = w.journal_is;
-    ok = w.ok;
-    turn = w.turn;
-    worker = another_line law state spells lines home nodes w.course w.sent looks' n from i w.course.phase line seat desks at other w.worker;
-    high = w.high;
+    seen_is = w.seen_is;
+    goes = w.goes;
+    node = another_line law state spells lines home nodes w.course looks' n from i w.course.phase line seat desks at other w.node;
   }
+
+  -- a node that has a line to play can play it: it hasn't left, so the log isn't trimmed above what it has applied
+  pub can_begin : MayRun law → FloorIs law.floor nodes → (looks : List (Option Looked)) (to : ℕ) (journal : List Event) (seat : SeatView) (desks : List Desk) → HasOne lines from to n
+      → IsUnderWay law state spells lines home nodes c looks n from from journal seat desks → CanPlay n journal seat
+  can_begin run is looks to journal seat desks one u =
+      let there = at_get (λ (l : NamedLine). (1 ≤ l.node) × (l.node ≤ nodes)) lines one.at one.line u.lines_are.nodes_are one.is in
+      let stays : HasNotLeft n c.seen = not_left law run lines looks n c.seen u.node.did.legal u.node.did.told one.at
+      (λ j l low get own. u.node.waiting j l (omega (arith, low, one.behind)) get own) home nodes u.lines_are one.line one.is one.node in
+      subst (λ j. CanPlay n j seat) u.seen_is (record {
+        high = trims_low law nodes is c.seen u.node.did.legal n (omega (arith, there.0, one.node)) (omega (arith, there.1, one.node)) seat.node.replica.cursor stays u.node.reports;
+        stays = stays;
+        reports = u.node.reports;
+      })
 
 -- the lines of a phase are of it
 pub phase_is : (lines : List NamedLine) (from to i phase : ℕ) (line : NamedLine) → BeginsAt lines from phase → BeginsAt lines to (phase + 1) → from ≤ i → i < to → slice_get lines i ≡ Some line → line.phase ≡ phase
@@ -94,31 +97,48 @@ phase_is lines from to i phase line b e low high at =
     let most = e.before i line at high in
     omega (arith, least, most)
 
-nil : {A : Type 0} (xs : List A) → xs ++ [] ≡ xs
-nil [] = refl
-nil (x ∷ xs) = ap (λ l. x ∷ l) (nil xs)
+-- a node that can play a line keeps the log from where it is
+pub kept_by : {beside : ℕ → ℕ → Type 0} {floor : List Entry → ℕ → Type 0} {seat : SeatView} {journal : List Event} → FloorIs floor seat.node.nodes → (1 ≤ seat.who) × (seat.who ≤ seat.node.nodes) → CanPlay seat.who journal seat → IsKept beside floor seat journal
+kept_by is there can = record {
+  high = can.high;
+  keeps = λ user there'. record { goes_by = is; least = there.0; most = there.1; stays = can.stays; upto = can.reports };
+}
 
-pub grows-none : (journal : List Event) → Grows journal journal
-grows-none journal = ([], sym (nil journal))
+-- it began no Seal where it has no right to
+pub left_still : {law : Law} {state : List Entry → SpaceMap → Type 0} {spells : List ℕ → Saved → Type 0} {beside : ℕ → ℕ → Type 0} {old new : List Event} {a b : SeatView}
+    → IsLeft law state spells beside ⊥ old a new b → SealsNone a.who old new
+left_still {old} {new} {a} h = seals_none a.who old new h.seals
 
--- Where nobody is beside
+-- the events of one node are of others for each other node
+pub others_of : (n m : ℕ) (es : List Event) → n ≢ m → AreOwn n es → AreOthers m es
+others_of n m [] apart h = tt
+others_of n m (e ∷ es) apart h = ((λ same. apart (sym h.0 ∙ same)), others_of n m es apart h.1)
 
-pub nobody : IsAlone (λ _. ⊥)
-nobody = record { nobody = λ user k. k }
+-- Which looks a turn keeps
 
--- a node keeps the log where it isn't trimmed above that
-pub kept_lone : {floor : List Entry → ℕ → Type 0} {seat : SeatView} {journal : List Event} → TrimsUpTo seat.node.replica.cursor journal → IsKept (λ _ _. ⊥) floor seat journal
-kept_lone {floor} {seat} {journal} high = kept_alone (λ _ _. ⊥) floor seat journal nobody high
+pub keeps_none : (lines : List NamedLine) (n : ℕ) (looks : List (Option Looked)) → KeepsOthers lines n looks looks
+keeps_none lines n looks = record { size = refl; others = λ i l at other. refl }
 
--- What a turn left.
+pub keeps_but : (i : ℕ) (looks : List (Option Looked)) → KeepsBut i looks looks
+keeps_but i looks = record { size = refl; others = λ j apart. refl }
 
-module _ {law : Law} {state : List Entry → SpaceMap → Type 0} {spells : List ℕ → Saved → Type 0} {right : Type 0} {old new : List Event} {a b : SeatView} where
-  pub left_own : IsLeft law state spells (λ _ _. ⊥) right old a new b → OwnSince a.who old new
-  left_own h = own_since a.who (λ _. ⊥) old new nobody h.since
+pub keeps_set : (i : ℕ) (look : Option Looked) (looks new : List (Option Looked)) → new ≡ slice_set looks i look → KeepsBut i looks new
+keeps_set i look looks new is = record {
+  size = ap length is ∙ length-set looks i look;
+  others = λ j apart. ap (λ ls. slice_get ls j) is ∙ set_other looks i j look apart;
+}
 
-  pub left_grows : IsLeft law state spells (λ _ _. ⊥) right old a new b → Grows old new
-  left_grows h = grows-since a.who (λ _. ⊥) old new h.since
-
-pub left_unsealed : {law : Law} {state : List Entry → SpaceMap → Type 0} {spells : List ℕ → Saved → Type 0} {old new : List Event} {a b : SeatView}
-    → IsLeft law state spells (λ _ _. ⊥) ⊥ old a new b → Unsealed old new
-left_unsealed {old} {new} {a} h = unsealed_own a.who old new (left_own h) (seals_none a.who old new h.seals)
+-- .. and one more line, which is the node's
+pub keeps_more : (lines : List NamedLine) (n i : ℕ) (line : NamedLine) (looks mid new : List (Option Looked)) → slice_get lines i ≡ Some line → line.node ≡ n → KeepsOthers lines n looks mid → KeepsBut i mid new → KeepsOthers lines n looks new
+keeps_more lines n i line looks mid new at own h k = record {
+  size = k.size ∙ h.size;
+  others = λ j l get other. k.others j (λ same. not_own j l get other same) ∙ h.others j l get other;
+}
+  where
+    not_own : (j : ℕ) (l : NamedLine) → slice_get lines j ≡ Some l → (l.node == n) ≡ false → j ≡ i → ⊥
+    not_own j l get other same =
+        let both : Some line ≡ Some l = sym at ∙ (ap (slice_get lines) (sym same) ∙ get) in
+        let it : line ≡ l = cc in
+        let is : (l.node == n) ≡ true = eq-eqb l.node n (ap (λ (m : NamedLine). m.node) (sym it) ∙ own) in
+        let clash : true ≡ false = sym is ∙ other in
+        cc

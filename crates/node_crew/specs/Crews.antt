@@ -1,80 +1,86 @@
 -- All nodes of a run.
-use Rattle.std.specs.Prelude.{◌≡◌, ℕ, ◌+◌, ◌<◌, ◌≤◌, ◌==◌, false, List, [], length, slice_get, Option, Some}
+use Rattle.std.specs.Prelude.{◌≡◌, ℕ, ◌+◌, ◌<◌, ◌≤◌, true, List, ◌++◌, length, get_or, Contains, slice_get, Option, Some}
 use Rattle.delos_types.specs.Spaces.{SpaceMap}
 use Rattle.delos_types.specs.declared.entry.Entry.{Entry}
 use Rattle.legal_journal.specs.Law.{Law}
 use Rattle.legal_journal.specs.declared.events.Event.{Event}
-use Rattle.legal_journal.specs.Journal.{state_of, tail_of}
-use Rattle.journal_laws.specs.Faults.{faults_in}
+use Rattle.legal_journal.specs.Sealing.{begins_seal}
 use Rattle.replica_api.specs.Replica.{Saved}
 use Rattle.script_text.specs.declared.asks.NamedLine.{NamedLine}
 use Rattle.turn_scopes.specs.Seats.{SeatView, SeatOk}
 use Rattle.node_lines.specs.declared.desk.Desk.{Desk}
 use Rattle.node_lines.specs.declared.lines.Looked.{Looked}
-use Rattle.run_course.specs.Script.{AreLines, BeginsAt}
-use Rattle.run_course.specs.Course.{Course, CourseOk}
-use Rattle.run_course.specs.Workers.{Rests}
-
--- none of the lines from `from` up to `to` is node n's
-abbrev pub HasNone : List NamedLine → ℕ → ℕ → ℕ → Type 0
-HasNone lines from to n = (i : ℕ) (l : NamedLine) → from ≤ i → i < to → slice_get lines i ≡ Some l → (l.node == n) ≡ false
-
--- a line from `from` on is node n's
-pub record HasOne (lines : List NamedLine) (from n : ℕ) : Type 0 where
-  pub at : ℕ
-  pub line : NamedLine
-  pub is : slice_get lines at ≡ Some line
-  pub behind : from ≤ at
-  pub node : line.node ≡ n
+use Rattle.node_course.specs.Script.{AreLines, BeginsAt}
+use Rattle.node_course.specs.Moments.{NodeCourse}
+use Rattle.node_course.specs.Telling.{AreBehind}
+use Rattle.node_course.specs.Workers.{Rests}
 
 -- the lines from `from` up to `to` aren't of a later phase, and the next one is
 pub record EndsPhase (lines : List NamedLine) (from to phase : ℕ) : Type 0 where
   pub inside : (i : ℕ) (l : NamedLine) → from ≤ i → i < to → slice_get lines i ≡ Some l → l.phase ≤ phase
   pub next : (l : NamedLine) → slice_get lines to ≡ Some l → phase < l.phase
 
--- the journal tells no fault, and no node's disk counted one
-pub record HasNoFault {A : Type 0} (journal : List Event) (seat : A → SeatView) (workers : List A) : Type 0 where
-  pub told : faults_in journal ≡ []
-  pub disks : (j : ℕ) (w : A) → slice_get workers j ≡ Some w → (seat w).node.replica.faults ≡ 0
-
--- some node has applied the log as far as this
-pub record HasReached {A : Type 0} (seat : A → SeatView) (workers : List A) (end : ℕ) : Type 0 where
+-- a line of the phase is node n's
+pub record HasLineIn (lines : List NamedLine) (phase n : ℕ) : Type 0 where
   pub at : ℕ
-  pub one : A
-  pub is : slice_get workers at ≡ Some one
-  pub upto : end ≤ (seat one).node.replica.cursor
+  pub line : NamedLine
+  pub is : slice_get lines at ≡ Some line
+  pub phase_is : line.phase ≡ phase
+  pub node_is : line.node ≡ n
 
--- where no fault came, some node has played the whole log
-abbrev pub SomeSees : {A : Type 0} → List Event → (A → SeatView) → List A → Type 0
-SomeSees journal seat workers = HasNoFault journal seat workers → HasReached seat workers (tail_of (state_of journal))
+-- each event since then is of a node with a line of the phase
+pub record AreAtWork (lines : List NamedLine) (phase : ℕ) (old new : List Event) : Type 0 where
+  pub more : List Event
+  pub seen : new ≡ old ++ more
+  pub each : (e : Event) → Contains more e → HasLineIn lines phase e.who
 
--- Between two phases: the lines of `phase` and of later ones begin at `from`. A worker is seen by its seat and its desks; the
--- nodes are numbered from 1.
+-- So it is of each phase with lines that has begun: `begins` are the journals as phases began; of a phase that hasn't, the present one is
+-- meant.
+abbrev pub AreOfPhases : List NamedLine → ℕ → List (List Event) → List Event → Type 0
+AreOfPhases lines phase begins journal = (i : ℕ) (l : NamedLine) → slice_get lines i ≡ Some l → l.phase ≤ phase → AreAtWork lines l.phase (get_or begins l.phase journal) (get_or begins (l.phase + 1) journal)
+
+-- nobody but nodes began a Seal
+abbrev pub SealsOfNodes : ℕ → List Event → Type 0
+SealsOfNodes nodes journal = (e : Event) → Contains journal e → begins_seal e ≡ true → (1 ≤ e.who) × (e.who ≤ nodes)
+
+-- A node has seen all of a run: it is in the present phase, its phases began as the run's did, and it knows each event.
+pub record HasSeenAll (phase : ℕ) (begins : List (List Event)) (journal : List Event) (c : NodeCourse) : Type 0 where
+  pub phase_is : c.phase ≡ phase
+  pub begins_are : c.begins ≡ begins
+  pub seen_is : c.seen ≡ journal
+
+-- Between two phases: the lines of `phase` and of later ones begin at `from`. Each node has a course of its own, by its number, and
+-- has seen all of the run. A worker is seen by its seat and its desks; the nodes are numbered from 1.
 pub record CrewRests {A : Type 0} (law : Law) (state : List Entry → SpaceMap → Type 0) (spells : List ℕ → Saved → Type 0) (lines : List NamedLine) (from phase : ℕ) (journal : List Event) (looks : List (Option Looked)) (seat : A → SeatView) (desks : A → List Desk) (workers : List A) : Type 0 where
   pub home : ℕ → ℕ
-  pub course : Course
-  pub counts : List ℕ
-  pub journal_is : course.journal ≡ journal
-  pub phase_is : course.phase ≡ phase
+  pub courses : ℕ → NodeCourse
+  pub begins : List (List Event)
   pub lines_are : AreLines lines home (length workers)
-  pub begins : BeginsAt lines from phase
-  pub ok : CourseOk law lines (length workers) course counts looks
-  pub each : (j : ℕ) (w : A) → slice_get workers j ≡ Some w → Rests law state spells lines home (length workers) course counts looks (j + 1) from phase (seat w) (desks w)
-  pub sees : SomeSees journal seat workers
+  pub ends : BeginsAt lines from phase
+  pub long : length begins ≡ phase + 1
+  pub made : AreOfPhases lines phase begins journal
+  pub seals : SealsOfNodes (length workers) journal
+  pub behind : AreBehind journal
+  pub seen : (n : ℕ) → 1 ≤ n → n ≤ length workers → HasSeenAll phase begins journal (courses n)
+  pub each : (j : ℕ) (w : A) → slice_get workers j ≡ Some w → Rests law state spells lines home (length workers) (courses (j + 1)) looks (j + 1) from phase (seat w) (desks w)
 
--- In a phase, whose lines are those from `from` up to `to`: the first k nodes have had their turn, the others not yet.
+-- In a phase, whose lines are those from `from` up to `to`: the first k nodes have had their turn, the others not yet. All have seen
+-- all of the run.
 pub record CrewAt {A : Type 0} (law : Law) (state : List Entry → SpaceMap → Type 0) (spells : List ℕ → Saved → Type 0) (lines : List NamedLine) (from to k : ℕ) (journal : List Event) (looks : List (Option Looked)) (seat : A → SeatView) (desks : A → List Desk) (workers : List A) : Type 0 where
   pub home : ℕ → ℕ
-  pub course : Course
-  pub counts : List ℕ
-  pub journal_is : course.journal ≡ journal
+  pub courses : ℕ → NodeCourse
+  pub phase : ℕ
+  pub begins : List (List Event)
   pub lines_are : AreLines lines home (length workers)
-  pub begins : BeginsAt lines from course.phase
-  pub ends : BeginsAt lines to (course.phase + 1)
-  pub ok : CourseOk law lines (length workers) course counts looks
-  pub had : (j : ℕ) (w : A) → j < k → slice_get workers j ≡ Some w → Rests law state spells lines home (length workers) course counts looks (j + 1) to (course.phase + 1) (seat w) (desks w)
-  pub waits : (j : ℕ) (w : A) → k ≤ j → slice_get workers j ≡ Some w → Rests law state spells lines home (length workers) course counts looks (j + 1) from course.phase (seat w) (desks w)
-  pub sees : SomeSees journal seat workers
+  pub starts : BeginsAt lines from phase
+  pub ends : BeginsAt lines to (phase + 1)
+  pub long : length begins ≡ phase + 1
+  pub made : AreOfPhases lines phase begins journal
+  pub seals : SealsOfNodes (length workers) journal
+  pub behind : AreBehind journal
+  pub seen : (n : ℕ) → 1 ≤ n → n ≤ length workers → HasSeenAll phase begins journal (courses n)
+  pub had : (j : ℕ) (w : A) → j < k → slice_get workers j ≡ Some w → Rests law state spells lines home (length workers) (courses (j + 1)) looks (j + 1) to (phase + 1) (seat w) (desks w)
+  pub waits : (j : ℕ) (w : A) → k ≤ j → slice_get workers j ≡ Some w → Rests law state spells lines home (length workers) (courses (j + 1)) looks (j + 1) from phase (seat w) (desks w)
 
 -- each node can take the fabric with this journal
 abbrev pub CrewStands : {A : Type 0} → Law → (List Entry → SpaceMap → Type 0) → (List ℕ → Saved → Type 0) → List Event → (A → SeatView) → List A → Type 0

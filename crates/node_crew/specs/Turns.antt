@@ -1,40 +1,63 @@
 -- A node's turn in a phase.
-use Rattle.std.specs.Prelude.{◌≡◌, ℕ, ◌+◌, ◌≤◌, List, [], slice_get, Option, Some}
+use Rattle.std.specs.Prelude.{◌≡◌, ◌≢◌, ◌⊎◌, ℕ, ◌+◌, ◌<◌, ◌≤◌, ◌==◌, false, List, length, slice_get, Option, Some}
 use Rattle.delos_types.specs.Spaces.{SpaceMap}
 use Rattle.delos_types.specs.declared.entry.Entry.{Entry}
 use Rattle.legal_journal.specs.Law.{Law}
 use Rattle.legal_journal.specs.declared.events.Event.{Event}
-use Rattle.legal_journal.specs.Journal.{state_of, tail_of}
-use Rattle.journal_laws.specs.Faults.{faults_in}
 use Rattle.replica_api.specs.Replica.{Saved}
 use Rattle.script_text.specs.declared.asks.NamedLine.{NamedLine}
-use Rattle.turn_scopes.specs.Seats.{SeatView}
+use Rattle.turn_scopes.specs.Seats.{SeatView, node_of}
 use Rattle.node_lines.specs.declared.desk.Desk.{Desk}
 use Rattle.node_lines.specs.declared.lines.Looked.{Looked}
-use Rattle.run_course.specs.Script.{BeginsAt}
-use Rattle.run_course.specs.Course.{Course, CourseOk, TurnOf}
-use Rattle.run_course.specs.Workers.{IsUnderWay, Rests, CanSend}
+use Rattle.node_lines.specs.Turns.{AllAnswered}
+use Rattle.node_lines.specs.Workers.{IsKept}
+use Rattle.node_course.specs.Script.{AreLines, BeginsAt}
+use Rattle.node_course.specs.Moments.{NodeCourse}
+use Rattle.node_course.specs.Workers.{CanSend, NodeAt}
 
 -- each node may append what its lines log
 abbrev pub MaySendAll : (ℕ → Entry → Type 0) → List NamedLine → Type 0
 MaySendAll may lines = (i : ℕ) (l : NamedLine) → slice_get lines i ≡ Some l → CanSend may l.node l.asks
 
--- it is the turn of node n in a phase, whose lines are those from `from` up to `to`; none of them was played
+-- none of the lines from `from` up to `to` is node n's
+abbrev pub HasNone : List NamedLine → ℕ → ℕ → ℕ → Type 0
+HasNone lines from to n = (i : ℕ) (l : NamedLine) → from ≤ i → i < to → slice_get lines i ≡ Some l → (l.node == n) ≡ false
+
+-- a line from `from` up to `to` is node n's
+pub record HasOne (lines : List NamedLine) (from to n : ℕ) : Type 0 where
+  pub at : ℕ
+  pub line : NamedLine
+  pub is : slice_get lines at ≡ Some line
+  pub behind : from ≤ at
+  pub within : at < to
+  pub node : line.node ≡ n
+
+-- It is the turn of node n, whose lines up to `at` were played, by its own course; those of the present phase begin at `from`.
+pub record IsUnderWay (law : Law) (state : List Entry → SpaceMap → Type 0) (spells : List ℕ → Saved → Type 0) (lines : List NamedLine) (home : ℕ → ℕ) (nodes : ℕ) (c : NodeCourse) (looks : List (Option Looked)) (n from at : ℕ) (journal : List Event) (seat : SeatView) (desks : List Desk) : Type 0 where
+  pub seen_is : c.seen ≡ journal
+  pub lines_are : AreLines lines home nodes
+  pub begins : BeginsAt lines from c.phase
+  pub node : NodeAt law state spells lines home nodes c looks n from at c.phase seat desks
+
+-- It is the turn of node n in a phase, whose lines are those from `from` up to `to`. None of them was played, and one is the node's.
 pub record IsPlaying (law : Law) (state : List Entry → SpaceMap → Type 0) (spells : List ℕ → Saved → Type 0) (lines : List NamedLine) (looks : List (Option Looked)) (n from to : ℕ) (journal : List Event) (seat : SeatView) (desks : List Desk) : Type 0 where
   pub home : ℕ → ℕ
   pub nodes : ℕ
-  pub course : Course
-  pub counts : List ℕ
+  pub course : NodeCourse
   pub ends : BeginsAt lines to (course.phase + 1)
-  pub now : IsUnderWay law state spells lines home nodes course counts looks n from from journal seat desks
+  pub one : HasOne lines from to n
+  pub now : IsUnderWay law state spells lines home nodes course looks n from from journal seat desks
 
--- The turn of node n came to its end; so much was sent then.
-pub record TurnWent (law : Law) (state : List Entry → SpaceMap → Type 0) (spells : List ℕ → Saved → Type 0) (lines : List NamedLine) (home : ℕ → ℕ) (nodes : ℕ) (c : Course) (counts : List ℕ) (looks looks' : List (Option Looked)) (n to : ℕ) (journal : List Event) (seat : SeatView) (desks : List Desk) : Type 0 where
-  pub course : Course
-  pub sent : List ℕ
-  pub journal_is : course.journal ≡ journal
-  pub ok : CourseOk law lines nodes course sent looks'
-  pub turn : TurnOf lines home n c course counts sent looks looks'
-  pub rests : Rests law state spells lines home nodes course sent looks' n to (course.phase + 1) seat desks
-  -- where no fault came, it has played the whole log
-  pub sees : faults_in journal ≡ [] → seat.node.replica.faults ≡ 0 → tail_of (state_of journal) ≤ seat.node.replica.cursor
+-- The phase can end at the node: the log is kept from where it is, or the answers of all its sessions were taken.
+abbrev pub CanEnd : (ℕ → ℕ → Type 0) → (List Entry → ℕ → Type 0) → List Event → SeatView → List Desk → Type 0
+CanEnd beside floor journal seat desks = IsKept beside floor seat journal ⊎ AllAnswered (node_of seat journal) desks
+
+-- What the lines' own looks came to is kept, but for line i's.
+pub record KeepsBut (i : ℕ) (old new : List (Option Looked)) : Type 0 where
+  pub size : length new ≡ length old
+  pub others : (j : ℕ) → j ≢ i → slice_get new j ≡ slice_get old j
+
+-- .. but for those of node n's lines
+pub record KeepsOthers (lines : List NamedLine) (n : ℕ) (old new : List (Option Looked)) : Type 0 where
+  pub size : length new ≡ length old
+  pub others : (i : ℕ) (l : NamedLine) → slice_get lines i ≡ Some l → (l.node == n) ≡ false → slice_get new i ≡ slice_get old i

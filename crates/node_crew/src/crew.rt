@@ -1,10 +1,10 @@
 //! All nodes of a run, phase by phase.
-ghost use Rattle.std.specs.Prelude.{◌≡◌, ◌<◌, ◌≤◌, ◌+◌, ◌==◌, ℕ, length, Some, true, false, IfOk, OnOk, slice_get};
+ghost use Rattle.std.specs.Prelude.{◌≡◌, ◌<◌, ◌≤◌, ◌+◌, ◌==◌, ℕ, length, Some, true, false, OnOk};
 ghost use Rattle.script_text.specs.declared.asks.NamedLine.{NamedLine};
 ghost use Rattle.turn_scopes.specs.Floors.{FloorIs};
 ghost use Rattle.node_lines.specs.Workers.{MayRun};
-ghost use Rattle.node_crew.specs.Turns.{MaySendAll};
-ghost use Rattle.node_crew.specs.Crews.{CrewAt, CrewRests, CrewStands, HasNone, HasOne, EndsPhase};
+ghost use Rattle.node_crew.specs.Turns.{HasNone, HasOne, MaySendAll};
+ghost use Rattle.node_crew.specs.Crews.{CrewAt, CrewRests, CrewStands, EndsPhase};
 
 use crate::turn::play_turn;
 use delos_types::numbers::NodeId;
@@ -39,7 +39,7 @@ pub struct Played<L: Loglet, R: Register, K: Terms, S: Replica, C: Chooser> {
 fn has_line(lines: &[NamedLine], from: usize, to: usize, node: NodeId) -> bool
     requires { (from ≤ to) × (to ≤ length lines.now) }
     ensures none { result ≡ false → HasNone lines.now from to node }
-    ensures one { result ≡ true → HasOne lines.now from node }
+    ensures one { result ≡ true → HasOne lines.now from to node }
 {
     for i in from..to {
         if lines[i].node == node {

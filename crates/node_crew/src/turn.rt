@@ -1,55 +1,57 @@
 //! A node's lines of a phase, and the phase's end there.
-ghost use Rattle.std.specs.Prelude.{◌≡◌, ◌<◌, ◌≤◌, ◌+◌, ℕ, List, length, Some, IfOk, OnOk, slice_get};
+ghost use Rattle.std.specs.Prelude.{◌≡◌, ◌<◌, ◌≤◌, ◌+◌, ℕ, length, OnOk};
+ghost use Rattle.turn_scopes.specs.Beside.{Since};
 ghost use Rattle.turn_scopes.specs.Floors.{FloorIs};
 ghost use Rattle.turn_scopes.specs.Seats.{SeatOk};
-ghost use Rattle.node_lines.specs.Workers.{MayRun, Grows};
-ghost use Rattle.run_course.specs.Script.{BeginsAt};
-ghost use Rattle.run_course.specs.Course.{Course};
-ghost use Rattle.run_course.specs.Workers.{IsUnderWay, LineWent};
-ghost use Rattle.node_crew.specs.Turns.{IsPlaying, MaySendAll, TurnWent};
+ghost use Rattle.node_lines.specs.Workers.{MayRun};
+ghost use Rattle.node_course.specs.Script.{BeginsAt};
+ghost use Rattle.node_course.specs.Moments.{NodeCourse};
+ghost use Rattle.node_course.specs.Workers.{LineWent, HasRested};
+ghost use Rattle.node_crew.specs.Turns.{IsPlaying, IsUnderWay, CanEnd, KeepsOthers, MaySendAll};
 
 use crate::line::play_line;
 use delos_types::numbers::NodeId;
 use fate_words::chooser::Chooser;
-use loglet_api::loglet::Loglet;
 use node_lines::lines::Looked;
 use node_workers::back::Back;
 use node_workers::turns::end_phase;
 use node_workers::worker::Worker;
-use register_api::Register;
 use replica_api::replica::Replica;
 use script_text::asks::NamedLine;
 use std::alloc::Global;
-use turn_scopes::lone::Lone;
-use turn_scopes::terms::{By, Terms};
+use turn_scopes::access::Access;
 
 /// Plays the worker's lines among those from `from` up to `to`.
-fn play_lines<L: Loglet, R: Register, K: Terms, S: Replica, C: Chooser>(
+fn play_lines<A: Access, S: Replica, C: Chooser>(
     alloc: Global,
-    lone: Lone<L, R, By<K>>,
+    access: A,
     worker: Worker<S, C>,
     looks: &mut Vec<Option<Looked>>,
     node: NodeId,
     lines: &[NamedLine],
     from: usize,
     to: usize,
-) -> Back<Lone<L, R, By<K>>, Worker<S, C>, ()>
-    requires run { MayRun K.law }
+) -> Back<A, Worker<S, C>, ()>
+    requires run { MayRun A.Law.law }
     requires node { worker.seat.who ≡ node }
-    requires who { lone.who ≡ node }
+    requires who { A.who access ≡ node }
     requires range { (from ≤ to) × (to ≤ length lines.now) }
-    requires sends { MaySendAll K.law.may lines.now }
-    requires floor { FloorIs K.law.floor worker.seat.node.nodes }
-    requires playing { IsPlaying K.law S.state S.spells lines.now looks.old.items node from to lone.fabric.journal worker.seat worker.desks.items }
-    ensures goes { (home : ℕ → ℕ) (nodes : ℕ) (c : Course) (counts : List ℕ)
-        → IsUnderWay K.law S.state S.spells lines.now home nodes c counts looks.old.items node from from lone.fabric.journal worker.seat worker.desks.items → BeginsAt lines.now to (c.phase + 1)
-        → OnOk result.answer (LineWent K.law S.state S.spells lines.now home nodes c counts looks.old.items looks.new.items node from to result.access.fabric.journal result.part.seat result.part.desks.items) }
-    ensures stands { SeatOk K.law S.state S.spells result.access.fabric.journal result.part.seat }
-    ensures grows { Grows lone.fabric.journal result.access.fabric.journal }
+    requires sends { MaySendAll A.Law.law.may lines.now }
+    requires floor { FloorIs A.Law.law.floor worker.seat.node.nodes }
+    requires playing { IsPlaying A.Law.law S.state S.spells lines.now looks.old.items node from to (A.seen access) worker.seat worker.desks.items }
+    ensures goes { (home : ℕ → ℕ) (nodes : ℕ) (c : NodeCourse)
+        → IsUnderWay A.Law.law S.state S.spells lines.now home nodes c looks.old.items node from from (A.seen access) worker.seat worker.desks.items → BeginsAt lines.now to (c.phase + 1)
+        → OnOk result.answer (LineWent A.Law.law S.state S.spells lines.now home nodes c looks.new.items node from to (A.seen result.access) result.part.seat result.part.desks.items) }
+    ensures keeps { OnOk result.answer (KeepsOthers lines.now node looks.old.items looks.new.items) }
+
+    // The phase can end then.
+    ensures ends { OnOk result.answer (CanEnd A.beside A.Law.law.floor (A.seen result.access) result.part.seat result.part.desks.items) }
+    ensures stands { SeatOk A.Law.law S.state S.spells (A.seen result.access) result.part.seat }
+    ensures since { Since worker.seat.who (A.beside worker.seat.who) (A.seen access) (A.seen result.access) }
     ensures who { result.part.seat.who ≡ worker.seat.who }
-    ensures whose { result.access.who ≡ lone.who }
+    ensures whose { A.who result.access ≡ A.who access }
 {
-    let mut lone = lone;
+    let mut access = access;
     let mut worker = worker;
     for i in from..to {
         let line = &lines[i];
@@ -58,15 +60,15 @@ fn play_lines<L: Loglet, R: Register, K: Terms, S: Replica, C: Chooser>(
                 part: played,
                 access: rest,
                 answer,
-            } = play_line(alloc, lone, worker, looks, i, line);
+            } = play_line(alloc, access, worker, looks, i, line);
             worker = played;
-            lone = rest;
+            access = rest;
             match answer {
                 Ok(()) => {}
                 Err(fault) => {
                     return Back {
                         part: worker,
-                        access: lone,
+                        access,
                         answer: Err(fault),
                     };
                 }
@@ -75,69 +77,70 @@ fn play_lines<L: Loglet, R: Register, K: Terms, S: Replica, C: Chooser>(
     }
     Back {
         part: worker,
-        access: lone,
+        access,
         answer: Ok(()),
     }
 }
 
 /// A node's turn in a phase, whose lines are those from `from` up to `to`.
-pub fn play_turn<L: Loglet, R: Register, K: Terms, S: Replica, C: Chooser>(
+pub fn play_turn<A: Access, S: Replica, C: Chooser>(
     alloc: Global,
-    lone: Lone<L, R, By<K>>,
+    access: A,
     worker: Worker<S, C>,
     looks: &mut Vec<Option<Looked>>,
     node: NodeId,
     lines: &[NamedLine],
     from: usize,
     to: usize,
-) -> Back<Lone<L, R, By<K>>, Worker<S, C>, ()>
-    requires run { MayRun K.law }
+) -> Back<A, Worker<S, C>, ()>
+    requires run { MayRun A.Law.law }
     requires node { worker.seat.who ≡ node }
-    requires who { lone.who ≡ node }
+    requires who { A.who access ≡ node }
     requires range { (from ≤ to) × (to ≤ length lines.now) }
-    requires sends { MaySendAll K.law.may lines.now }
-    requires floor { FloorIs K.law.floor worker.seat.node.nodes }
-    requires playing { IsPlaying K.law S.state S.spells lines.now looks.old.items node from to lone.fabric.journal worker.seat worker.desks.items }
-    ensures goes { (home : ℕ → ℕ) (nodes : ℕ) (c : Course) (counts : List ℕ)
-        → IsUnderWay K.law S.state S.spells lines.now home nodes c counts looks.old.items node from from lone.fabric.journal worker.seat worker.desks.items → BeginsAt lines.now to (c.phase + 1)
-        → OnOk result.answer (TurnWent K.law S.state S.spells lines.now home nodes c counts looks.old.items looks.new.items node to result.access.fabric.journal result.part.seat result.part.desks.items) }
-    ensures stands { SeatOk K.law S.state S.spells result.access.fabric.journal result.part.seat }
-    ensures grows { Grows lone.fabric.journal result.access.fabric.journal }
+    requires sends { MaySendAll A.Law.law.may lines.now }
+    requires floor { FloorIs A.Law.law.floor worker.seat.node.nodes }
+    requires playing { IsPlaying A.Law.law S.state S.spells lines.now looks.old.items node from to (A.seen access) worker.seat worker.desks.items }
+    ensures goes { (home : ℕ → ℕ) (nodes : ℕ) (c : NodeCourse)
+        → IsUnderWay A.Law.law S.state S.spells lines.now home nodes c looks.old.items node from from (A.seen access) worker.seat worker.desks.items → BeginsAt lines.now to (c.phase + 1)
+        → OnOk result.answer (HasRested A.Law.law S.state S.spells lines.now home nodes c looks.new.items node to (c.phase + 1) (A.seen result.access) result.part.seat result.part.desks.items) }
+    ensures keeps { OnOk result.answer (KeepsOthers lines.now node looks.old.items looks.new.items) }
+    ensures stands { SeatOk A.Law.law S.state S.spells (A.seen result.access) result.part.seat }
+    ensures since { Since worker.seat.who (A.beside worker.seat.who) (A.seen access) (A.seen result.access) }
     ensures who { result.part.seat.who ≡ worker.seat.who }
-    ensures whose { result.access.who ≡ lone.who }
+    ensures whose { A.who result.access ≡ A.who access }
 {
     let Back {
         part: worker,
-        access: lone,
+        access,
         answer,
-    } = play_lines(alloc, lone, worker, looks, node, lines, from, to);
+    } = play_lines(alloc, access, worker, looks, node, lines, from, to);
     match answer {
         Ok(()) => {}
         Err(fault) => {
             return Back {
                 part: worker,
-                access: lone,
+                access,
                 answer: Err(fault),
             };
         }
     }
     let Back {
         part: worker,
-        access: lone,
+        access,
         answer,
-    } = end_phase(lone, worker);
+    } = end_phase(access, worker);
     match answer {
         Ok(_failed) => {
             return Back {
                 part: worker,
-                access: lone,
+                access,
                 answer: Ok(()),
             };
         }
         Err(fault) => {
             return Back {
                 part: worker,
-                access: lone,
+                access,
                 answer: Err(fault),
             };
         }

@@ -1,5 +1,5 @@
 -- What a node's own lines come to, of the pieces that they are put together of.
-use Rattle.std.proofs.Common.{◌≡◌, refl, sym, ap, ◌∙◌, subst, ⊎_elim, inl, inr, ℕ, zero, suc, ◌≤◌, List, [], ◌∷◌, ◌++◌, Some, None, length, drop, Contains, false, arith, append_assoc}
+use Rattle.std.proofs.Common.{◌≡◌, refl, sym, ap, ◌∙◌, subst, ⊎_elim, inl, inr, ℕ, zero, suc, ◌≤◌, List, [], ◌∷◌, ◌++◌, Option, Some, None, length, drop, Contains, false, arith, append_assoc}
 use Rattle.std.specs.Prelude.{max, slice_get}
 use Rattle.std.proofs.lemmas.List.Elements.{Contains-append_right}
 use Rattle.delos_types.specs.declared.entry.Entry.{Entry}
@@ -26,9 +26,10 @@ use Rattle.base_engine.specs.Settling.{OutboxView}
 use Rattle.base_engine.specs.Trimming.{IsAppended, least_of, trim_to}
 use Rattle.base_engine.specs.Node.{NodeView, Keeps}
 use Rattle.base_engine.proofs.Freeing.{there}
+use Rattle.node_lines.specs.Lines.{failure_in}
 use Rattle.node_lines.specs.declared.lines.Looked.TheVariants as looked
 use Rattle.node_lines.specs.declared.measure.Measured.TheVariants as measured
-use Rattle.node_lines.specs.Moving.{Moves}
+use Rattle.node_lines.specs.Moving.{Moves, CarriesFirst}
 use Rattle.node_lines.specs.Measuring.{Measures, MeasuresSo}
 use Rattle.node_lines.specs.Reporting.{IsAppendedWithin, Tells, HasTold, Reports}
 use Rattle.node_lines.specs.declared.desk.Desk.{Desk}
@@ -131,8 +132,10 @@ module _ (law : Law) where
     reached = omega (arith, m.is, low, cuts.cuts.1.truncated.reached);
     upto = trim_upto law played.who played.seen new.seen (trim_to played.nodes played.replica) trim cut.later.legal cuts.cuts.1;
     position = n;
+    least = m.is;
     synced = mid.seen;
     since = (k.later.more, k.later.seen);
+    met = m.at.front;
     says = says_alone old.replica.origin item (trim_item n) (content.Trim n) fine says made;
     landed = appended_later old.who mid.seen e played.seen new.seen cut.later.more cut.later.seen (appended_later old.who mid.seen e told.seen played.seen on.later.more on.later.seen a.landed);
   }
@@ -204,10 +207,18 @@ module _ (law : Law) (low : (log : List Entry) (n : ℕ) → law.floor log n →
   pub moves_trans : (old mid new : NodeView) (others more : List Cause) → Moves law old mid others → Moves law mid new more → Moves law old new (others ++ more)
   moves_trans = moves-both law low
 
+  -- what was carried to its end first was so before what came next too
+  carries_on : (old mid new : NodeView) (others : List Cause) → CarriesFirst law old mid [] → Moves law mid new others → CarriesFirst law old new others
+  carries_on old mid new others h more = record { settled = h.settled; carries = h.carries; since = moves_trans h.settled mid new [] others h.since more }
+
+  moves_first : (old mid new : NodeView) (others : List Cause) → CarriesFirst law old mid [] → Moves law mid new others → Moves law old new others
+  moves_first old mid new others h more = moves_trans old h.settled new [] others h.carries.moves (moves_trans h.settled mid new [] others h.since more)
+
   pub reports_told : (old mid new : NodeView) (n : ℕ) (item : Item) → Measures law clean_position old mid (measured.At n) → Tells law mid new item None → HasTold old new n → Reports law old new (looked.Reported n)
   reports_told old mid new n item h tells told = record {
     others = [];
     moves = moves_trans old mid new [] [] h.moves tells.moves;
+    first = carries_on old mid new [] h.first tells.moves;
     none = tells.none;
     kept = tells.kept;
     tells = (refl, told);
@@ -217,56 +228,62 @@ module _ (law : Law) (low : (log : List Entry) (n : ℕ) → law.floor log n →
   reports_untold measure old mid new n item cause h tells = record {
     others = cause ∷ [];
     moves = moves_trans old mid new [] (cause ∷ []) h.moves tells.moves;
+    first = carries_on old mid new (cause ∷ []) h.first tells.moves;
     none = tells.none;
     kept = tells.kept;
     tells = refl;
   }
 
   pub reports_unmeasured : (measure : List Entry → ℕ) (old new : NodeView) (cause : Cause) → Measures law measure old new (measured.Failed cause) → Reports law old new (looked.Failed cause)
-  reports_unmeasured measure old new cause h = record { others = cause ∷ []; moves = h.moves; none = h.none; kept = h.kept; tells = refl }
+  reports_unmeasured measure old new cause h = record { others = cause ∷ []; moves = h.moves; first = h.first; none = h.none; kept = h.kept; tells = refl }
 
   -- what was told was played, or the log or the disk failed
-  played_moves : (old mid told new : NodeView) (item : Item) → Moves law old mid [] → Tells law mid told item None → PlaysKnown law told new None → Moves law old new []
-  played_moves old mid told new item first tells plays = moves_trans old told new [] [] (moves_trans old mid told [] [] first tells.moves) plays.moves
+  told_played : (mid told new : NodeView) (item : Item) (failed : Option Cause) → Tells law mid told item None → PlaysKnown law told new failed → Moves law mid new (failure_in failed)
+  told_played mid told new item failed tells plays = moves_trans mid told new [] (failure_in failed) tells.moves plays.moves
 
-  unplayed_moves : (old mid told new : NodeView) (item : Item) (cause : Cause) → Moves law old mid [] → Tells law mid told item None → PlaysKnown law told new (Some cause) → Moves law old new (cause ∷ [])
-  unplayed_moves old mid told new item cause first tells plays = moves_trans old told new [] (cause ∷ []) (moves_trans old mid told [] [] first tells.moves) plays.moves
-
-  pub leaves_done : (old mid told new : NodeView) (item : Item) → Moves law old mid [] → Tells law mid told item None → PlaysKnown law told new None → HasLeft old new → Leaves law old new looked.Left
+  pub leaves_done : (old mid told new : NodeView) (item : Item) → CarriesFirst law old mid [] → Tells law mid told item None → PlaysKnown law told new None → HasLeft old new → Leaves law old new looked.Left
   leaves_done old mid told new item first tells plays left = record {
     others = [];
-    moves = played_moves old mid told new item first tells plays;
+    moves = moves_first old mid new [] first (told_played mid told new item None tells plays);
+    first = carries_on old mid new [] first (told_played mid told new item None tells plays);
     none = ap (λ (o : OutboxView). o.entries) plays.outbox ∙ tells.none;
     kept = plays.kept ∙ tells.kept;
     leaves = (refl, left);
   }
 
-  pub leaves_unplayed : (old mid told new : NodeView) (item : Item) (cause : Cause) → Moves law old mid [] → Tells law mid told item None → PlaysKnown law told new (Some cause) → Leaves law old new (looked.Failed cause)
+  pub leaves_unplayed : (old mid told new : NodeView) (item : Item) (cause : Cause) → CarriesFirst law old mid [] → Tells law mid told item None → PlaysKnown law told new (Some cause) → Leaves law old new (looked.Failed cause)
   leaves_unplayed old mid told new item cause first tells plays = record {
     others = cause ∷ [];
-    moves = unplayed_moves old mid told new item cause first tells plays;
+    moves = moves_first old mid new (cause ∷ []) first (told_played mid told new item (Some cause) tells plays);
+    first = carries_on old mid new (cause ∷ []) first (told_played mid told new item (Some cause) tells plays);
     none = ap (λ (o : OutboxView). o.entries) plays.outbox ∙ tells.none;
     kept = plays.kept ∙ tells.kept;
     leaves = refl;
   }
 
-  pub leaves_untold : (old mid new : NodeView) (item : Item) (cause : Cause) → Moves law old mid [] → Tells law mid new item (Some cause) → Leaves law old new (looked.Failed cause)
+  pub leaves_untold : (old mid new : NodeView) (item : Item) (cause : Cause) → CarriesFirst law old mid [] → Tells law mid new item (Some cause) → Leaves law old new (looked.Failed cause)
   leaves_untold old mid new item cause first tells = record {
     others = cause ∷ [];
-    moves = moves_trans old mid new [] (cause ∷ []) first tells.moves;
+    moves = moves_first old mid new (cause ∷ []) first tells.moves;
+    first = carries_on old mid new (cause ∷ []) first tells.moves;
     none = tells.none;
     kept = tells.kept;
     leaves = refl;
   }
 
   pub leaves_unanswered : (old new : NodeView) (was is : List Desk) (cause : Cause) → AnswersAll law old new was is (Some cause) → Leaves law old new (looked.Failed cause)
-  leaves_unanswered old new was is cause h = record { others = cause ∷ []; moves = h.moves; none = h.none; kept = h.kept; leaves = refl }
+  leaves_unanswered old new was is cause h = record { others = cause ∷ []; moves = h.moves; first = h.first; none = h.none; kept = h.kept; leaves = refl }
+
+  -- .. and then the log was trimmed, or that failed
+  played_cut : (mid told played new : NodeView) (item : Item) (others : List Cause) → Tells law mid told item None → PlaysKnown law told played None → Moves law played new others → Moves law mid new others
+  played_cut mid told played new item others tells plays cuts = moves_trans mid played new [] others (told_played mid told played item None tells plays) cuts
 
   pub trims_done : (measure : List Entry → ℕ) (old mid told played new : NodeView) (n trim : ℕ) (item : Item) → Measures law measure old mid (measured.At n) → Tells law mid told item None → PlaysKnown law told played None
       → Cuts law played new (looked.Trimmed trim) → HasTrimmed old new trim → TrimsLog law old new (looked.Trimmed trim)
   trims_done measure old mid told played new n trim item h tells plays cuts trimmed = record {
     others = cuts.others;
-    moves = moves_trans old played new [] cuts.others (played_moves old mid told played item h.moves tells plays) cuts.moves;
+    moves = moves_trans old mid new [] cuts.others h.moves (played_cut mid told played new item cuts.others tells plays cuts.moves);
+    first = carries_on old mid new cuts.others h.first (played_cut mid told played new item cuts.others tells plays cuts.moves);
     none = ap (λ (o : OutboxView). o.entries) (cuts.outbox ∙ plays.outbox) ∙ tells.none;
     kept = ap (λ (r : ReplicaView). r.kept) cuts.replica ∙ (plays.kept ∙ tells.kept);
     trims = (cuts.cuts.0, trimmed);
@@ -276,7 +293,8 @@ module _ (law : Law) (low : (log : List Entry) (n : ℕ) → law.floor log n →
       → Cuts law played new (looked.Failed cause) → TrimsLog law old new (looked.Failed cause)
   trims_uncut measure old mid told played new n item cause h tells plays cuts = record {
     others = cuts.others;
-    moves = moves_trans old played new [] cuts.others (played_moves old mid told played item h.moves tells plays) cuts.moves;
+    moves = moves_trans old mid new [] cuts.others h.moves (played_cut mid told played new item cuts.others tells plays cuts.moves);
+    first = carries_on old mid new cuts.others h.first (played_cut mid told played new item cuts.others tells plays cuts.moves);
     none = ap (λ (o : OutboxView). o.entries) (cuts.outbox ∙ plays.outbox) ∙ tells.none;
     kept = ap (λ (r : ReplicaView). r.kept) cuts.replica ∙ (plays.kept ∙ tells.kept);
     trims = cuts.cuts;
@@ -286,7 +304,8 @@ module _ (law : Law) (low : (log : List Entry) (n : ℕ) → law.floor log n →
       → TrimsLog law old new (looked.Failed cause)
   trims_unplayed measure old mid told new n item cause h tells plays = record {
     others = cause ∷ [];
-    moves = unplayed_moves old mid told new item cause h.moves tells plays;
+    moves = moves_trans old mid new [] (cause ∷ []) h.moves (told_played mid told new item (Some cause) tells plays);
+    first = carries_on old mid new (cause ∷ []) h.first (told_played mid told new item (Some cause) tells plays);
     none = ap (λ (o : OutboxView). o.entries) plays.outbox ∙ tells.none;
     kept = plays.kept ∙ tells.kept;
     trims = refl;
@@ -296,10 +315,11 @@ module _ (law : Law) (low : (log : List Entry) (n : ℕ) → law.floor log n →
   trims_untold measure old mid new n item cause h tells = record {
     others = cause ∷ [];
     moves = moves_trans old mid new [] (cause ∷ []) h.moves tells.moves;
+    first = carries_on old mid new (cause ∷ []) h.first tells.moves;
     none = tells.none;
     kept = tells.kept;
     trims = refl;
   }
 
   pub trims_unmeasured : (measure : List Entry → ℕ) (old new : NodeView) (cause : Cause) → Measures law measure old new (measured.Failed cause) → TrimsLog law old new (looked.Failed cause)
-  trims_unmeasured measure old new cause h = record { others = cause ∷ []; moves = h.moves; none = h.none; kept = h.kept; trims = refl }
+  trims_unmeasured measure old new cause h = record { others = cause ∷ []; moves = h.moves; first = h.first; none = h.none; kept = h.kept; trims = refl }

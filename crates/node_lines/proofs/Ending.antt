@@ -33,7 +33,7 @@ use Rattle.node_lines.proofs.Reading.{state_table}
 use Rattle.node_lines.specs.declared.lines.Looked.TheVariants as looked
 use Rattle.node_lines.specs.declared.steps.Synced.{Synced}
 use Rattle.node_lines.specs.declared.steps.Synced.TheVariants as synced'
-use Rattle.node_lines.specs.Moving.{Moves, failure_of}
+use Rattle.node_lines.specs.Moving.{Moves, CarriesFirst, failure_of}
 use Rattle.node_lines.specs.Desks.{DeskOk, IsBound, KeepsFrom}
 use Rattle.node_lines.specs.Measuring.{StandsAt}
 use Rattle.node_lines.specs.Lines.{LooksSo, Looks, HasActedTo, EndsPhase, stopped_by}
@@ -76,6 +76,10 @@ module _ (law : Law) (low : (log : List Entry) (n : ℕ) → law.floor log n →
 
     legal : IsLegal law new.seen
     legal = all.goes.keeps.later.legal
+
+    -- all was carried to its end, and then a tail was found
+    pub carried_first : CarriesFirst law old new []
+    carried_first = record { settled = settled; carries = record { moves = both; none = e.none; kept = e.kept }; since = e.last }
 
     pub landed : (s sent : ℕ) → cause_in s new.outbox.given ≡ None → IsGiven old.seen old.outbox.entries old.replica.kept s sent → (r : ℕ) → 1 ≤ r → r ≤ sent → HasLanded settled.seen s r
     landed s sent none g = given_landed settled.seen s sent (subst (λ (k : List Item). IsGiven settled.seen [] k s sent) e.kept (subst (λ (x : List Entry). IsGiven settled.seen x settled.replica.kept s sent) e.none
@@ -138,7 +142,7 @@ module _ (law : Law) (low : (log : List Entry) (n : ℕ) → law.floor log n →
           let given = (ok.given free none_then).1 in
           let told : LooksSo old new d query [] (looked.Found tail found) = (
             refl,
-            (free, none_then),
+            (free, none),
             upward,
             record {
               log = at.log;
@@ -154,6 +158,7 @@ module _ (law : Law) (low : (log : List Entry) (n : ℕ) → law.floor log n →
     pub ends_at : new.outbox.entries ≡ [] → new.outbox.unsettled ≡ None → new.replica.kept ≡ [] → settled.replica.cursor ≡ old.replica.cursor → EndsBy settled.who settled.replica.cursor settled.seen tail new.seen → EndsPhase law old new None
     ends_at none unsettled kept still by = record {
       moves = all;
+      first = carried_first;
       none = none;
       unsettled = unsettled;
       kept = kept;

@@ -31,6 +31,4 @@ pub mod Settling
 pub mod Staying
 pub mod Bounding
 pub mod Chains
-pub mod Lone
-pub mod Sealing
 pub mod Saying

@@ -17,6 +17,7 @@ module _ (law : Law) (first other : List Entry → ℕ) (old new : NodeView) whe
       → Measures law other old new (measured.At n)
   measures_other k n h is = record {
     moves = h.moves;
+    first = h.first;
     none = h.none;
     unsettled = h.unsettled;
     kept = h.kept;
@@ -27,4 +28,4 @@ module _ (law : Law) (first other : List Entry → ℕ) (old new : NodeView) whe
 
   -- nothing was read
   pub measures_none : (c : Cause) → Measures law first old new (measured.Failed c) → Measures law other old new (measured.Failed c)
-  measures_none c h = record { moves = h.moves; none = h.none; unsettled = h.unsettled; kept = h.kept; measured = λ m same. absurd (cc) }
+  measures_none c h = record { moves = h.moves; first = h.first; none = h.none; unsettled = h.unsettled; kept = h.kept; measured = λ m same. absurd (cc) }

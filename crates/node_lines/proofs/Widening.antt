@@ -19,15 +19,15 @@ use Rattle.turn_scopes.specs.Beside.{Since}
 use Rattle.turn_scopes.specs.Seats.{SeatView, SeatOk}
 use Rattle.node_lines.specs.declared.lines.Looked.{Looked}
 use Rattle.node_lines.specs.declared.measure.Measured.{Measured}
-use Rattle.node_lines.specs.Moving.{Goes, Moves, HandsIn}
+use Rattle.node_lines.specs.Moving.{Goes, Moves, CarriesAll, CarriesFirst, HandsIn}
 use Rattle.node_lines.specs.Lines.{Readies, Looks, failure_in}
-use Rattle.node_lines.specs.Extending.{CarriesAll, ExtendsSo, Replaces}
+use Rattle.node_lines.specs.Extending.{ExtendsSo, Replaces}
 use Rattle.node_lines.specs.Measuring.{Measures}
 use Rattle.node_lines.specs.Reporting.{Tells}
 use Rattle.node_lines.specs.Leaving.{PlaysKnown}
 use Rattle.node_lines.specs.Trimming.{Cuts}
 use Rattle.node_lines.specs.Turns.{AnswersAll, EndsTurn}
-use Rattle.node_lines.proofs.Relaying.{goes_by, moves_by, measures_by, tells_by, plays_by, cuts_by}
+use Rattle.node_lines.proofs.Relaying.{goes_by, moves_by, first_by, measures_by, tells_by, plays_by, cuts_by}
 use Rattle.node_lines.specs.Workers.{Within, OwnWithin, Grows, sent_of}
 use Rattle.turn_scopes.specs.Beside.{IsNarrower}
 use Rattle.turn_scopes.proofs.Widening.{legal_lower}
@@ -72,6 +72,9 @@ module _ (scope law : Law) (narrow : IsNarrower scope law) where
   pub moves_wider : (old new : NodeView) (others : List Cause) → Moves scope old new others → Moves law old new others
   moves_wider old new others h = moves_by scope law old new (legal_wide new.seen h.goes.keeps.later.legal) others h
 
+  first_wider : (old new : NodeView) (others : List Cause) → CarriesFirst scope old new others → CarriesFirst law old new others
+  first_wider old new others h = first_by scope law old new (legal_wide new.seen h.since.goes.keeps.later.legal) others h
+
   -- What the calls of a node say
 
   pub carries_wider : (old new : NodeView) → CarriesAll scope old new → CarriesAll law old new
@@ -106,6 +109,7 @@ module _ (scope law : Law) (narrow : IsNarrower scope law) where
     mid = h.mid;
     ends = record {
       moves = moves_wider old h.mid (failure_in failed) h.ends.moves;
+      first = first_wider old h.mid (failure_in failed) h.ends.first;
       none = h.ends.none;
       unsettled = h.ends.unsettled;
       kept = h.ends.kept;
@@ -120,6 +124,7 @@ module _ (scope law : Law) (narrow : IsNarrower scope law) where
   pub answers_wider : (old new : NodeView) (was is : List Desk) (failed : Option Cause) → AnswersAll scope old new was is failed → AnswersAll law old new was is failed
   answers_wider old new was is failed h = record {
     moves = moves_wider old new (failure_in failed) h.moves;
+    first = first_wider old new (failure_in failed) h.first;
     none = h.none;
     unsettled = h.unsettled;
     kept = h.kept;

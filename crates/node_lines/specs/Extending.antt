@@ -20,12 +20,6 @@ ExtendsSo cells old new others (looked.Reported position) = ⊥
 ExtendsSo cells old new others looked.Left = ⊥
 ExtendsSo cells old new others (looked.Trimmed trim) = ⊥
 
--- What waited was packed, and all that was outstanding was carried to its end.
-pub record CarriesAll (law : Law) (old new : NodeView) : Type 0 where
-  pub moves : Moves law old new []
-  pub none : new.outbox.entries ≡ []
-  pub kept : new.replica.kept ≡ []
-
 -- The last loglet was replaced, and nothing else was done: whatever came of it, no Seal was begun, or one of the loglet that was
 -- the last one.
 pub record Replaces (law : Law) (old new : NodeView) (answer : Looked) : Type 0 where
@@ -44,6 +38,7 @@ pub record Extends (law : Law) (old new : NodeView) (answer : Looked) : Type 0 w
   pub settles : Moves law old settled []
   pub none : settled.outbox.entries ≡ []
   pub kept : settled.replica.kept ≡ []
+  pub since : Moves law settled new others
   pub unsealed : SealsNone old.who old.seen settled.seen
   pub replica : new.replica ≡ settled.replica
   pub outbox : new.outbox ≡ settled.outbox

@@ -12,7 +12,7 @@ use Rattle.base_engine.specs.Trimming.{IsAppended}
 use Rattle.base_engine.specs.Node.{NodeView}
 use Rattle.node_lines.specs.declared.lines.Looked.{Looked}
 use Rattle.node_lines.specs.declared.lines.Looked.TheVariants as looked
-use Rattle.node_lines.specs.Moving.{Moves}
+use Rattle.node_lines.specs.Moving.{Moves, CarriesFirst}
 use Rattle.node_lines.specs.Lines.{failure_in}
 
 -- The log was played as far as it is known; or the log or the disk failed. Nothing else was done.
@@ -45,6 +45,7 @@ LeavesSo old new others (looked.Trimmed trim) = ⊥
 pub record Leaves (law : Law) (old new : NodeView) (answer : Looked) : Type 0 where
   pub others : List Cause
   pub moves : Moves law old new others
+  pub first : CarriesFirst law old new others
   pub none : new.outbox.entries ≡ []
   pub kept : new.replica.kept ≡ []
   pub leaves : LeavesSo old new others answer

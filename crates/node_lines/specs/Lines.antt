@@ -25,7 +25,7 @@ use Rattle.node_lines.specs.Answered.{AreAllAnswers, InFront}
 use Rattle.node_lines.specs.UnderWay.{IsGiven}
 use Rattle.node_lines.specs.declared.steps.Synced.{Synced}
 use Rattle.node_lines.specs.declared.steps.Synced.TheVariants as synced
-use Rattle.node_lines.specs.Moving.{Moves, failure_of}
+use Rattle.node_lines.specs.Moving.{Moves, CarriesFirst, failure_of}
 
 -- a session has no cause, and wasn't stopped
 abbrev pub IsFree : NodeView → Desk → Type 0
@@ -62,11 +62,12 @@ pub record Shows (seen : List Event) (s sent : ℕ) (query : Query) (after : ℕ
   pub shows : found ≡ find_in (table_after finmap.empty (acts_in log)) query
 
 -- A read saw its session's commands so far, and its position isn't below any tail that was answered before; or it was kept
--- open by the session's cause; or a sync failed.
+-- open by the session's cause; or a sync failed. It is found, or open by the sync, only where the session has no cause once all
+-- that was outstanding was carried to its end.
 abbrev pub LooksSo : NodeView → NodeView → Desk → Query → List Cause → Looked → Type 0
-LooksSo old new d query others (looked.Found after found) = (others ≡ []) × IsFree old d × (tail_of (state_of old.seen) ≤ after) × Shows new.seen d.session d.sent query after found × (after ≡ new.replica.cursor)
+LooksSo old new d query others (looked.Found after found) = (others ≡ []) × IsFree new d × (tail_of (state_of old.seen) ≤ after) × Shows new.seen d.session d.sent query after found × (after ≡ new.replica.cursor)
 LooksSo old new d query others (looked.Kept c) = (others ≡ []) × (((d.stopped ≡ Some c)) ⊎ ((d.stopped ≡ None) × (cause_in d.session new.outbox.given ≡ Some c)))
-LooksSo old new d query others (looked.Failed c) = (others ≡ c ∷ []) × (d.stopped ≡ None)
+LooksSo old new d query others (looked.Failed c) = (others ≡ c ∷ []) × IsFree new d
 LooksSo old new d query others (looked.Extended x) = ⊥
 LooksSo old new d query others (looked.Reported position) = ⊥
 LooksSo old new d query others looked.Left = ⊥
@@ -90,6 +91,7 @@ failure_in (Some c) = c ∷ []
 -- meanwhile and nothing was trimmed above where the node was.
 pub record EndsPhase (law : Law) (old new : NodeView) (failed : Option Cause) : Type 0 where
   pub moves : Moves law old new (failure_in failed)
+  pub first : CarriesFirst law old new (failure_in failed)
   pub none : new.outbox.entries ≡ []
   pub unsettled : new.outbox.unsettled ≡ None
   pub kept : new.replica.kept ≡ []

@@ -12,7 +12,7 @@ use Rattle.base_engine.specs.Reading.{IsFront}
 use Rattle.base_engine.specs.Node.{NodeView}
 use Rattle.node_lines.specs.declared.measure.Measured.{Measured}
 use Rattle.node_lines.specs.declared.measure.Measured.TheVariants as measured
-use Rattle.node_lines.specs.Moving.{Moves}
+use Rattle.node_lines.specs.Moving.{Moves, CarriesFirst}
 
 -- the node has the state of a front of the log that reaches each tail that was there before
 pub record StandsAt (old new : NodeView) : Type 0 where
@@ -33,6 +33,7 @@ failure_measured (measured.Failed c) = c ∷ []
 -- All was carried to its end, and this was read off the node's state at a tail; or the log or the disk failed.
 pub record Measures (law : Law) (measure : List Entry → ℕ) (old new : NodeView) (answer : Measured) : Type 0 where
   pub moves : Moves law old new (failure_measured answer)
+  pub first : CarriesFirst law old new (failure_measured answer)
   pub none : new.outbox.entries ≡ []
   pub unsettled : new.outbox.unsettled ≡ None
   pub kept : new.replica.kept ≡ []

@@ -86,6 +86,18 @@ pub record Moves (law : Law) (old new : NodeView) (others : List Cause) : Type 0
   pub stays : (s : ℕ) → StaysGiven old new s
   pub quiet : (s : ℕ) → StaysQuiet old new s
 
+-- What waited was packed, and all that was outstanding was carried to its end.
+pub record CarriesAll (law : Law) (old new : NodeView) : Type 0 where
+  pub moves : Moves law old new []
+  pub none : new.outbox.entries ≡ []
+  pub kept : new.replica.kept ≡ []
+
+-- All was carried to its end first; these causes came behind that, each of its own.
+pub record CarriesFirst (law : Law) (old new : NodeView) (others : List Cause) : Type 0 where
+  pub settled : NodeView
+  pub carries : CarriesAll law old settled
+  pub since : Moves law settled new others
+
 -- of session s the next command after so many goes down
 pub record HandsIn (law : Law) (old new : NodeView) (s sent : ℕ) : Type 0 where
   pub goes : Goes law old new []

@@ -18,7 +18,7 @@ use Rattle.base_engine.specs.Trimming.{IsAppended}
 use Rattle.base_engine.specs.Node.{NodeView}
 use Rattle.node_lines.specs.declared.lines.Looked.{Looked}
 use Rattle.node_lines.specs.declared.lines.Looked.TheVariants as looked
-use Rattle.node_lines.specs.Moving.{Moves}
+use Rattle.node_lines.specs.Moving.{Moves, CarriesFirst}
 use Rattle.node_lines.specs.Lines.{failure_in}
 
 -- what the item says is of no session
@@ -75,6 +75,7 @@ ReportsSo old new others (looked.Trimmed trim) = ⊥
 pub record Reports (law : Law) (old new : NodeView) (answer : Looked) : Type 0 where
   pub others : List Cause
   pub moves : Moves law old new others
+  pub first : CarriesFirst law old new others
   pub none : new.outbox.entries ≡ []
   pub kept : new.replica.kept ≡ []
   pub tells : ReportsSo old new others answer

@@ -17,7 +17,7 @@ use Rattle.base_engine.specs.Trimming.{IsAppended, trim_to}
 use Rattle.base_engine.specs.Node.{NodeView}
 use Rattle.node_lines.specs.declared.lines.Looked.{Looked}
 use Rattle.node_lines.specs.declared.lines.Looked.TheVariants as looked
-use Rattle.node_lines.specs.Moving.{Moves}
+use Rattle.node_lines.specs.Moving.{Moves, CarriesFirst}
 
 -- the log was trimmed as far as the node's state says, to this trim; or it failed
 abbrev pub CutsSo : NodeView → NodeView → List Cause → Looked → Type 0
@@ -38,8 +38,8 @@ pub record Cuts (law : Law) (old new : NodeView) (answer : Looked) : Type 0 wher
   pub cuts : CutsSo old new others answer
 
 -- The node had the state of a front of the log that reaches each tail that was there before. The trim isn't below the least
--- position of a member in it, nor above that of the log; and an entry that asks for a trim, and says nothing else, was
--- appended.
+-- position of a member in it, nor above that of the log; and an entry that asks for a trim to that least position, and says nothing
+-- else, was appended after that.
 pub record HasTrimmed (old new : NodeView) (trim : ℕ) : Type 0 where
   pub log : List Entry
   pub front : IsFront Holds new.seen log
@@ -47,8 +47,10 @@ pub record HasTrimmed (old new : NodeView) (trim : ℕ) : Type 0 where
   pub reached : least_position old.nodes (unpack_all 0 log) ≤ trim
   pub upto : trim ≤ trim_of (state_of new.seen)
   pub position : ℕ
+  pub least : position ≡ least_position old.nodes (unpack_all 0 log)
   pub synced : List Event
   pub since : (more : List Event) × (synced ≡ old.seen ++ more)
+  pub met : IsFront Holds synced log
   pub says : unpack 0 (packed old.replica.origin (trim_item position ∷ [])) ≡ placed_from 0 0 (content.Trim position ∷ [])
   pub landed : IsAppended Holds old.who synced (packed old.replica.origin (trim_item position ∷ [])) new.seen
 
@@ -66,6 +68,7 @@ TrimsSo old new others looked.Left = ⊥
 pub record TrimsLog (law : Law) (old new : NodeView) (answer : Looked) : Type 0 where
   pub others : List Cause
   pub moves : Moves law old new others
+  pub first : CarriesFirst law old new others
   pub none : new.outbox.entries ≡ []
   pub kept : new.replica.kept ≡ []
   pub trims : TrimsSo old new others answer

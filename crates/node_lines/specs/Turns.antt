@@ -7,7 +7,7 @@ use Rattle.node_lines.specs.declared.desk.Desk.{Desk}
 use Rattle.node_lines.specs.Answered.{AreAllAnswers, InFront}
 use Rattle.node_lines.specs.Desks.{DesksOk}
 use Rattle.node_lines.specs.Lines.{IsFree, EndsPhase, Closes, failure_in}
-use Rattle.node_lines.specs.Moving.{Moves}
+use Rattle.node_lines.specs.Moving.{Moves, CarriesFirst}
 
 -- a session that asked something is closed
 pub record ClosesIt (n : NodeView) (failed : Option Cause) (old new : Desk) : Type 0 where
@@ -58,6 +58,7 @@ IsAnswered old new = (s : ℕ) (d : Desk) → slice_get new s ≡ Some d → (x 
 -- cause has all of them.
 pub record AnswersAll (law : Law) (old new : NodeView) (was is : List Desk) (failed : Option Cause) : Type 0 where
   pub moves : Moves law old new (failure_in failed)
+  pub first : CarriesFirst law old new (failure_in failed)
   pub none : new.outbox.entries ≡ []
   pub unsettled : new.outbox.unsettled ≡ None
   pub kept : new.replica.kept ≡ []

@@ -1,8 +1,8 @@
 //! What a node's own line asks of it: the last loglet of the log is replaced.
 ghost use Rattle.std.specs.Prelude.{◌≤◌, ℕ, List, length, IfOk, OnOk};
 ghost use Rattle.delos_types.specs.declared.entry.Entry.{Entry};
-ghost use Rattle.node_lines.specs.Moving.{CanPack};
-ghost use Rattle.node_lines.specs.Extending.{CarriesAll, Replaces};
+ghost use Rattle.node_lines.specs.Moving.{CanPack, CarriesAll};
+ghost use Rattle.node_lines.specs.Extending.{Replaces};
 
 use crate::lines::Looked;
 use crate::steps::{pack, settle};

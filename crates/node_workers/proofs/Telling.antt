@@ -17,9 +17,9 @@ use Rattle.base_engine.specs.Node.{NodeView}
 use Rattle.node_lines.specs.declared.lines.Looked.{Looked}
 use Rattle.node_lines.specs.declared.lines.Looked.TheVariants as looked
 use Rattle.node_lines.specs.declared.measure.Measured.TheVariants as measured
-use Rattle.node_lines.specs.Moving.{Moves}
+use Rattle.node_lines.specs.Moving.{Moves, CarriesAll, CarriesFirst}
 use Rattle.node_lines.specs.Lines.{failure_in}
-use Rattle.node_lines.specs.Extending.{CarriesAll, Replaces, Extends}
+use Rattle.node_lines.specs.Extending.{Replaces, Extends}
 use Rattle.node_lines.specs.Measuring.{Measures}
 use Rattle.node_lines.specs.Reporting.{IsPlain, Tells, Reports}
 use Rattle.node_lines.specs.Leaving.{Leaves}
@@ -98,6 +98,7 @@ module _ (law : Law) (low : (log : List Entry) (n : ℕ) → law.floor log n →
     settles = carries.moves;
     none = carries.none;
     kept = carries.kept;
+    since = replaces.moves;
     unsealed = unsealed;
     replica = replaces.replica;
     outbox = replaces.outbox;
@@ -117,11 +118,14 @@ module _ (law : Law) (low : (log : List Entry) (n : ℕ) → law.floor log n →
   reports old mid new number n item (Some c) h made own fine says t = reports_untold law low clean_position old mid new n item c h t
 
   -- The leave was appended and played.
-  pub leaves : (old mid new : NodeView) (number : ℕ) (item : Item) (failed : Option Cause) → Moves law old mid [] → item ≡ leave_item number → number ≡ old.replica.origin → IsProposable item
+  moves_carried : (old new : NodeView) (others : List Cause) → CarriesFirst law old new others → Moves law old new others
+  moves_carried old new others h = moves-both law low old h.settled new [] others h.carries.moves h.since
+
+  pub leaves : (old mid new : NodeView) (number : ℕ) (item : Item) (failed : Option Cause) → CarriesFirst law old mid [] → item ≡ leave_item number → number ≡ old.replica.origin → IsProposable item
       → content_of item ≡ Some (content.Leave number) → TellsAndPlays law mid new item failed → Leaves law old new (came_to failed looked.Left)
   leaves old mid new number item failed first made own fine says (inl t) = subst (λ f. Leaves law old new (came_to f looked.Left)) (sym t.is) (leaves_untold law low old mid new item t.cause first t.tells)
   leaves old mid new number item None first made own fine says (inr t) =
-      leaves_done law low old mid t.told new item first t.tells t.plays (leaves_of law old mid t.told new number item first made own fine says t.tells t.plays)
+      leaves_done law low old mid t.told new item first t.tells t.plays (leaves_of law old mid t.told new number item (moves_carried old mid [] first) made own fine says t.tells t.plays)
   leaves old mid new number item (Some c) first made own fine says (inr t) = leaves_unplayed law low old mid t.told new item c first t.tells t.plays
 
   -- .. with what was appended by then

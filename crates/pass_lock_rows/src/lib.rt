@@ -8,8 +8,6 @@
 mod clerk;
 mod desk;
 mod office;
-#[cfg(test)]
-mod tests;
 
 pub use clerk::Clerk;
 pub use desk::{Counting, Desk, Event, Stamp};

@@ -1,20 +1,28 @@
 -- All answers were taken: the run has closed.
-use Rattle.std.proofs.Common.{◌≡◌, refl, sym, ◌∙◌, subst, ℕ, ◌+◌, List, Option, Some, None, map, length, slice_get}
-use Rattle.std.specs.Prelude.{option_map}
-use Rattle.std.proofs.lemmas.List.{length-map}
+use Rattle.std.proofs.Common.{◌≡◌, refl, sym, ap, ◌∙◌, subst, inl, ℕ, ◌+◌, ◌<◌, ◌≤◌, List, ◌∷◌, ◌++◌, Option, Some, None, map, length, slice_get, arith, append_assoc}
+use Rattle.std.specs.Prelude.{get_or, option_map}
+use Rattle.std.proofs.lemmas.List.{append_cancel_left, length-map}
 use Rattle.std.proofs.lemmas.Option.{slice_get-map, slice_get_within}
 use Rattle.delos_types.specs.Spaces.{SpaceMap}
 use Rattle.delos_types.specs.declared.entry.Entry.{Entry}
 use Rattle.legal_journal.specs.Law.{Law}
 use Rattle.legal_journal.specs.declared.events.Event.{Event}
+use Rattle.virtual_log.specs.declared.extend.Extension.TheVariants.{Moved}
 use Rattle.replica_api.specs.Replica.{Saved}
 use Rattle.script_text.specs.declared.asks.NamedLine.{NamedLine}
 use Rattle.turn_scopes.specs.Seats.{SeatView}
 use Rattle.node_lines.specs.declared.desk.Desk.{Desk}
 use Rattle.node_lines.specs.declared.lines.Looked.{Looked}
-use Rattle.run_course.specs.Script.{AreLines}
-use Rattle.run_course.specs.Course.{CourseOk}
-use Rattle.run_ends.specs.Closing.{WorkerEnd, WorkerClosed, HasClosed}
+use Rattle.node_lines.specs.declared.lines.Looked.TheVariants as looked
+use Rattle.run_laws.proofs.Members.{Among, among-right, contains-among}
+use Rattle.node_course.specs.Script.{AreLines}
+use Rattle.node_course.specs.Moments.{NodeCourse, moment}
+use Rattle.node_course.specs.Played.{Came}
+use Rattle.node_course.specs.Replacing.{IsPassed}
+use Rattle.node_course.specs.Joined.{AreJoined}
+use Rattle.node_course.proofs.Parts.{moment_is, node_there}
+use Rattle.node_crew.specs.Crews.{AreAtWork, AreOfPhases, HasLineIn, SealsOfNodes}
+use Rattle.run_ends.specs.Closing.{HasBeside, WorkerEnd, WorkerClosed, HasClosed}
 use Rattle.run_closing.specs.Taking.{CrewTakes}
 
 -- each element of a list that was mapped comes of one
@@ -24,6 +32,45 @@ mapped {A} {B} f xs j y at = by (slice_get xs j) refl (sym (slice_get-map f xs j
     by : (o : Option A) → slice_get xs j ≡ o → option_map f o ≡ Some y → (x : A) × (slice_get xs j ≡ Some x) × (f x ≡ y)
     by None is e = absurd (cc)
     by (Some x) is e = (x, is, cc)
+
+-- Where a line found that another node had replaced the last loglet, that node had an event in the phase, and so a line.
+moved_beside : (law : Law) (lines : List NamedLine) (home : ℕ → ℕ) (nodes : ℕ) (run : NodeCourse) (looks : List (Option Looked)) (courses : ℕ → NodeCourse) (journal : List Event) → AreLines lines home nodes → AreJoined law lines home nodes run looks courses
+    → run.seen ≡ journal → AreOfPhases lines run.phase run.begins journal → ((i : ℕ) (l : NamedLine) → slice_get lines i ≡ Some l → l.phase < run.phase)
+    → (i : ℕ) (l : NamedLine) (version : ℕ) → slice_get lines i ≡ Some l → slice_get looks i ≡ Some (Some (looked.Extended (Moved version))) → HasBeside lines l
+moved_beside law lines home nodes run looks courses journal are join seen made over i l version at look = record {
+  at = line.at;
+  line = line.line;
+  is = line.is;
+  phase_is = line.phase_is;
+  another = λ same. event.is.apart (sym line.node_is ∙ same);
+}
+  where
+    come : Came lines looks l.node i l (looked.Extended (Moved version))
+    come = record { is = at; own = refl; looked = look }
+
+    there : (1 ≤ l.node) × (l.node ≤ nodes)
+    there = node_there law lines home nodes run looks courses are join l.node i l (looked.Extended (Moved version)) come
+
+    event : IsPassed l.node (moment (courses l.node) l.phase) (moment (courses l.node) (l.phase + 1))
+    event = ((join.did l.node there.0 there.1).replaced.each i l (Moved version) come).1
+
+    moments : (p : ℕ) → moment (courses l.node) p ≡ get_or run.begins p journal
+    moments p = moment_is law lines home nodes run looks courses join l.node there.0 there.1 p ∙ ap (get_or run.begins p) seen
+
+    work : AreAtWork lines l.phase (moment (courses l.node) l.phase) (moment (courses l.node) (l.phase + 1))
+    work =
+        let early = over i l at in
+        subst (λ j. AreAtWork lines l.phase j (moment (courses l.node) (l.phase + 1))) (sym (moments l.phase))
+        (subst (AreAtWork lines l.phase (get_or run.begins l.phase journal)) (sym (moments (l.phase + 1))) (made i l at (omega (arith, early))))
+
+    among : Among work.more event.event
+    among =
+        let same : work.more ≡ event.before ++ event.event ∷ event.after = append_cancel_left (moment (courses l.node) l.phase) work.more (event.before ++ event.event ∷ event.after)
+        (sym work.seen ∙ (event.seen ∙ append_assoc (moment (courses l.node) l.phase) event.before (event.event ∷ event.after))) in
+        subst (λ es. Among es event.event) (sym same) (among-right event.before (event.event ∷ event.after) event.event (inl refl))
+
+    line : HasLineIn lines l.phase event.event.who
+    line = work.each event.event (contains-among work.more event.event among)
 
 module _ {A : Type 0} (law : Law) (state : List Entry → SpaceMap → Type 0) (spells : List ℕ → Saved → Type 0) (lines : List NamedLine) (seat : A → SeatView) (desks : A → List Desk) (workers : List A) (journal : List Event) (looks : List (Option Looked)) where
   abbrev ends : List WorkerEnd
@@ -39,16 +86,19 @@ module _ {A : Type 0} (law : Law) (state : List Entry → SpaceMap → Type 0) (
     h.size,
     record {
       home = h.home;
-      course = h.course;
-      counts = h.counts;
-      journal_is = h.journal_is;
+      run = h.run;
+      courses = h.courses;
+      seen_is = h.seen_is;
       lines_are = subst (AreLines lines h.home) (sym long) h.lines_are;
-      ok = subst (λ n. CourseOk law lines n h.course h.counts looks) (sym long) h.ok;
+      joined = subst (λ n. AreJoined law lines h.home n h.run looks h.courses) (sym long) h.joined;
       over = h.over;
       front = h.front;
       each = λ j e at. let from = mapped (λ (w : A). record { seat = seat w; desks = desks w }) workers j e at in
-          subst (λ n. WorkerClosed law state spells lines h.home n h.course h.counts looks h.log (j + 1) e) (sym long)
-          (subst (WorkerClosed law state spells lines h.home (length workers) h.course h.counts looks h.log (j + 1)) from.2
+          subst (λ n. WorkerClosed law state spells lines h.home n (h.courses (j + 1)) looks h.log (j + 1) e) (sym long)
+          (subst (WorkerClosed law state spells lines h.home (length workers) (h.courses (j + 1)) looks h.log (j + 1)) from.2
           (h.taken j from.0 (slice_get_within workers j from.0 from.1) from.1));
+      beside = λ i l version at look. moved_beside law lines h.home (length workers) h.run looks h.courses journal h.lines_are h.joined h.seen_is h.made h.over i l version at look;
+      seals = subst (λ n. SealsOfNodes n journal) (sym long) h.seals;
+      behind = h.behind;
     },
   )

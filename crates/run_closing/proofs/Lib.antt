@@ -3,6 +3,7 @@ pub mod Collecting
 pub mod Ok
 pub mod Opening
 pub mod Putting
+pub mod Calm
 pub mod Finishing
 pub mod Seeing
 pub mod Taking

@@ -1,6 +1,6 @@
 -- The answers of sessions are taken, node by node.
-use Rattle.std.proofs.Common.{◌≡◌, ◌≢◌, refl, sym, ap, ◌∙◌, subst, ◌⊎◌, inl, inr, ℕ, ◌+◌, ◌<◌, ◌≤◌, List, [], Option, Some, length, arith, append-nil}
-use Rattle.std.specs.Prelude.{All, slice_get, slice_set}
+use Rattle.std.proofs.Common.{◌≡◌, ◌≢◌, refl, sym, ap, ◌∙◌, subst, ◌⊎◌, inl, inr, ⊎_elim, ℕ, ◌+◌, ◌-◌, ◌<◌, ◌≤◌, List, [], Option, Some, length, arith, append-nil}
+use Rattle.std.specs.Prelude.{All, Contains, slice_get, slice_set}
 use Rattle.std.specs.List.{AllByRecursion}
 use Rattle.std.proofs.lemmas.Bool.{cases_lt}
 use Rattle.std.proofs.lemmas.List.{length-set}
@@ -26,50 +26,56 @@ use Rattle.node_lines.specs.Answered.{AreAllAnswers}
 use Rattle.node_lines.specs.declared.lines.Looked.{Looked}
 use Rattle.node_lines.specs.Moving.{CanPack, IsQuiet}
 use Rattle.node_lines.specs.Desks.{DesksOk}
-use Rattle.node_lines.specs.Workers.{IsOfSession, ReportsUpTo, Sends, Within, WorkerOk, sent_by}
-use Rattle.node_lines.proofs.Widening.{seat_wider}
+use Rattle.node_lines.specs.Workers.{IsOfSession, OwnWithin, ReportsUpTo, Sends, WorkerOk, appended_by, sent_by}
 use Rattle.node_lines.proofs.Bounding.{answers_stay}
+use Rattle.node_lines.proofs.Own.{legal_own, own_may}
 use Rattle.run_laws.specs.Ended.{CameTo}
-use Rattle.run_course.specs.Script.{AreLines}
-use Rattle.run_course.specs.Course.{Course, CourseOk}
-use Rattle.run_course.specs.Desks.{PlayedSo}
-use Rattle.run_course.specs.Workers.{Rests}
-use Rattle.run_course.proofs.Legal.{sent_here}
-use Rattle.run_course.proofs.Ranks.{home_is}
-use Rattle.node_crew.specs.Crews.{CrewRests, CrewStands}
+use Rattle.node_course.specs.Script.{AreLines}
+use Rattle.node_course.specs.Moments.{NodeCourse}
+use Rattle.node_course.specs.Course.{CourseOk}
+use Rattle.node_course.specs.Joined.{AreJoined, faults_to}
+use Rattle.node_course.specs.Desks.{PlayedSo}
+use Rattle.node_course.specs.Workers.{Rests}
+use Rattle.node_course.proofs.Legal.{worker_legal, worker_within}
+use Rattle.node_course.proofs.Looks.{same_or_other}
+use Rattle.node_course.proofs.Sent.{sent_is}
+use Rattle.node_crew.specs.Crews.{CrewRests, CrewStands, SealsOfNodes}
 use Rattle.node_crew.proofs.Crews.{changed}
 use Rattle.node_crew.proofs.Playing.{worker_stands}
 use Rattle.run_closing.specs.Collecting.{CanTakeAll, TakesAll, WithinDesks}
 use Rattle.run_ends.specs.Closing.{WorkerClosed, DeskClosed}
 use Rattle.run_closing.specs.Finishing.{HasMost, SeesAll}
 use Rattle.run_closing.specs.Taking.{CrewTakes, WaitsToTake}
+use Rattle.run_closing.proofs.Finishing.{seen_at}
 use Rattle.run_closing.proofs.Putting.{some_at, same_some}
 
 -- a node that has slept meanwhile, and is the same
-pub rests_same : (law : Law) (state : List Entry → SpaceMap → Type 0) (spells : List ℕ → Saved → Type 0) (lines : List NamedLine) (home : ℕ → ℕ) (nodes : ℕ) (c : Course) (counts : List ℕ) (looks : List (Option Looked)) (n from done : ℕ) (seat seat' : SeatView) (desks : List Desk)
-    → node_of seat' c.journal ≡ node_of seat c.journal → SeatOk law state spells c.journal seat'
-    → Rests law state spells lines home nodes c counts looks n from done seat desks → Rests law state spells lines home nodes c counts looks n from done seat' desks
-rests_same law state spells lines home nodes c counts looks n from done seat seat' desks same ok r = record {
-  worker = record {
+pub rests_same : (law : Law) (state : List Entry → SpaceMap → Type 0) (spells : List ℕ → Saved → Type 0) (lines : List NamedLine) (home : ℕ → ℕ) (nodes : ℕ) (c : NodeCourse) (looks : List (Option Looked)) (n from done : ℕ) (seat seat' : SeatView) (desks : List Desk)
+    → node_of seat' c.seen ≡ node_of seat c.seen → SeatOk law state spells c.seen seat'
+    → Rests law state spells lines home nodes c looks n from done seat desks → Rests law state spells lines home nodes c looks n from done seat' desks
+rests_same law state spells lines home nodes c looks n from done seat seat' desks same ok r = record {
+  node = record {
     ok = record {
-      who_is = ap (λ (x : NodeView). x.who) same ∙ r.worker.ok.who_is;
-      origin = ap (λ (x : NodeView). x.replica.origin) same ∙ r.worker.ok.origin;
-      ok = record { shelf_is = ok.shelf_is; goes_by = ok.goes_by; node = subst (NodeOk (record law { may = Sends n law.may (sent_by desks) c.journal }) Holds state spells) (sym same) r.worker.ok.ok.node };
-      packs = subst (λ (x : NodeView). CanPack x.replica.kept) (sym same) r.worker.ok.packs;
-      waits = subst (λ (x : NodeView). All IsOfSession x.replica.kept) (sym same) r.worker.ok.waits;
-      size = r.worker.ok.size;
-      each = subst (λ (x : NodeView). DesksOk x desks) (sym same) r.worker.ok.each;
-      home = r.worker.ok.home;
+      who_is = ap (λ (x : NodeView). x.who) same ∙ r.node.ok.who_is;
+      origin = ap (λ (x : NodeView). x.replica.origin) same ∙ r.node.ok.origin;
+      ok = record { shelf_is = ok.shelf_is; goes_by = ok.goes_by; node = subst (NodeOk (record law { may = Sends n law.may (sent_by desks) c.seen }) Holds state spells) (sym same) r.node.ok.ok.node };
+      packs = subst (λ (x : NodeView). CanPack x.replica.kept) (sym same) r.node.ok.packs;
+      waits = subst (λ (x : NodeView). All IsOfSession x.replica.kept) (sym same) r.node.ok.waits;
+      size = r.node.ok.size;
+      each = subst (λ (x : NodeView). DesksOk x desks) (sym same) r.node.ok.each;
+      home = r.node.ok.home;
     };
-    nodes_is = ap (λ (x : NodeView). x.nodes) same ∙ r.worker.nodes_is;
-    order = r.worker.order;
-    each = r.worker.each;
-    quiet = λ s e. subst (λ (x : NodeView). IsQuiet x s) (sym same) (r.worker.quiet s e);
-    given = subst (λ (x : NodeView). AllByRecursion (λ (g : Given). CameTo c.faults g.cause n c.phase) x.outbox.given) (sym same) r.worker.given;
-    waiting = r.worker.waiting;
-    played = λ i l low at own. subst (λ (x : NodeView). PlayedSo lines c done x.replica.cursor n desks looks i l.phase l.asks) (sym same) (r.worker.played i l low at own);
-    reports = subst (λ (x : NodeView). ReportsUpTo n x.replica.cursor c.journal) (sym same) r.worker.reports;
-    stores = let faults = ap (λ (x : NodeView). x.replica.faults) same in let was = r.worker.stores in omega (arith, faults, was);
+    did = r.node.did;
+    nodes_is = ap (λ (x : NodeView). x.nodes) same ∙ r.node.nodes_is;
+    order = r.node.order;
+    early = r.node.early;
+    each = r.node.each;
+    quiet = λ s e. subst (λ (x : NodeView). IsQuiet x s) (sym same) (r.node.quiet s e);
+    given = subst (λ (x : NodeView). AllByRecursion (λ (g : Given). CameTo c.faults g.cause n c.phase) x.outbox.given) (sym same) r.node.given;
+    waiting = r.node.waiting;
+    played = λ i l low at own. subst (λ (x : NodeView). PlayedSo lines c done x.replica.cursor n desks looks i l.phase l.asks) (sym same) (r.node.played i l low at own);
+    reports = subst (λ (x : NodeView). ReportsUpTo n x.replica.cursor c.seen) (sym same) r.node.reports;
+    stores = let faults = ap (λ (x : NodeView). x.replica.faults) same in let was = r.node.stores in omega (arith, faults, was);
   };
   none_given = ap (λ (x : NodeView). x.outbox.given) same ∙ r.none_given;
 }
@@ -86,21 +92,30 @@ module _ {A : Type 0} (law : Law) (state : List Entry → SpaceMap → Type 0) (
       → CrewTakes law state spells lines node cursor 0 journal looks seat desks workers
   takes_first phase node cursor h m sees = record {
     home = h.home;
-    course = h.course;
-    counts = h.counts;
-    journal_is = h.journal_is;
+    run = record { seen = journal; phase = phase; begins = h.begins; faults = faults_to h.courses (length workers); when = λ s. (h.courses (h.home s)).when s };
+    courses = h.courses;
+    seen_is = refl;
     lines_are = h.lines_are;
-    ok = h.ok;
-    over = λ i l at. let early = h.begins.before i l at (slice_get_within lines i l at) in let is = h.phase_is in omega (arith, early, is);
+    joined = record {
+      faults = refl;
+      part = λ n least most.
+          let s = h.seen n least most in
+          record { seen = s.seen_is; phase = s.phase_is; begins = s.begins_are; when = λ t home_is. ap (λ n. (h.courses n).when t) (sym home_is) };
+      did = did;
+    };
+    over = λ i l at. h.ends.before i l at (slice_get_within lines i l at);
+    made = h.made;
+    seals = h.seals;
+    behind = h.behind;
     log = front.log;
     size = long;
-    front = subst (λ i. IsFront Holds i front.log) h.journal_is front.front;
+    front = subst (λ i. IsFront Holds i front.log) (seen_at law state spells lines seat desks workers (length lines) phase journal looks h node best.0 best.1).seen_is front.front;
     sees = sees;
     there = m.there;
     most = m.at some;
     taken = λ j w less at. absurd (omega (arith, less));
     waits = λ j w high at. record {
-      rests = subst (λ p. Rests law state spells lines h.home (length workers) h.course h.counts looks (j + 1) (length lines) p (seat w) (desks w)) (sym h.phase_is) (h.each j w at);
+      rests = subst (λ p. Rests law state spells lines h.home (length workers) (h.courses (j + 1)) looks (j + 1) (length lines) p (seat w) (desks w)) (sym (seen_at law state spells lines seat desks workers (length lines) phase journal looks h j w at).phase_is) (h.each j w at);
       short = let low = m.most j w (slice_get_within workers j w at) at in let is = long in omega (arith, low, is);
     };
   }
@@ -111,60 +126,86 @@ module _ {A : Type 0} (law : Law) (state : List Entry → SpaceMap → Type 0) (
       best : (b : A) × (slice_get workers node ≡ Some b)
       best = some_at workers node m.there
 
-      front : IsStateAt Holds state h.course.journal (saved_in (seat best.0).node.replica)
-      front = (h.each node best.0 best.1).worker.ok.ok.node.follows.now
+      front : IsStateAt Holds state (h.courses (node + 1)).seen (saved_in (seat best.0).node.replica)
+      front = (h.each node best.0 best.1).node.ok.ok.node.follows.now
 
       long : length front.log ≡ cursor
       long = front.size ∙ m.at some best.0 best.1
 
+      did : (n : ℕ) → 1 ≤ n → n ≤ length workers → CourseOk law lines (length workers) n (h.courses n) looks
+      did n least most =
+          let w = some_at workers (n - 1) (omega (arith, least, most)) in
+          let same : n - 1 + 1 ≡ n = omega (arith, least) in
+          subst (λ k. CourseOk law lines (length workers) k (h.courses k) looks) same (h.each (n - 1) w.0 w.1).node.did
+
   module _ (node cursor k : ℕ) (h : CrewTakes law state spells lines node cursor k journal looks seat desks workers) where
-    rest_of : (j : ℕ) (w : A) → slice_get workers j ≡ Some w → (was : List Desk) × Rests law state spells lines h.home (length workers) h.course h.counts looks (j + 1) (length lines) h.course.phase (seat w) was
+    rest_of : (j : ℕ) (w : A) → slice_get workers j ≡ Some w → (was : List Desk) × Rests law state spells lines h.home (length workers) (h.courses (j + 1)) looks (j + 1) (length lines) (h.courses (j + 1)).phase (seat w) was
     rest_of j w at = by (cases_lt j k)
       where
-        by : (j < k) ⊎ (k ≤ j) → (was : List Desk) × Rests law state spells lines h.home (length workers) h.course h.counts looks (j + 1) (length lines) h.course.phase (seat w) was
+        by : (j < k) ⊎ (k ≤ j) → (was : List Desk) × Rests law state spells lines h.home (length workers) (h.courses (j + 1)) looks (j + 1) (length lines) (h.courses (j + 1)).phase (seat w) was
         by (inl low) = let t = h.taken j w low at in (t.was, t.rests)
         by (inr high) = (desks w, (h.waits j w high at).rests)
 
+    -- each node has seen all
+    journal_at : (j : ℕ) (w : A) → slice_get workers j ≡ Some w → (h.courses (j + 1)).seen ≡ journal
+    journal_at j w at = let inside = slice_get_within workers j w at in (h.joined.part (j + 1) (omega arith) (omega (arith, inside))).seen ∙ h.seen_is
+
     stand_ok : (j : ℕ) (w : A) → slice_get workers j ≡ Some w → SeatOk law state spells journal (seat w)
-    stand_ok j w at = let r = rest_of j w at in subst (λ i. SeatOk law state spells i (seat w)) h.journal_is (worker_stands law state spells (j + 1) h.course.journal (seat w) r.0 r.1.worker.ok)
+    stand_ok j w at = let r = rest_of j w at in subst (λ i. SeatOk law state spells i (seat w)) (journal_at j w at) (worker_stands law state spells (j + 1) (h.courses (j + 1)).seen (seat w) r.0 r.1.node.ok)
 
-    -- so it can take the fabric where nobody's ranks are above those that were sent
-    bound_ok : (j : ℕ) (w : A) → slice_get workers j ≡ Some w → SeatOk (record law { may = Within law.may h.counts }) state spells h.course.journal (seat w)
-    bound_ok j w at =
-        let r = rest_of j w at in
-        let ok = r.1.worker.ok.ok in
-        let who = r.1.worker.ok.who_is in
-        let here = sent_here law state spells lines h.home (length workers) h.course h.counts looks (j + 1) (length lines) (length lines) h.course.phase (seat w) r.0 h.lines_are r.1.worker in
-        let up : (e : Entry) → Sends (j + 1) law.may (sent_by r.0) h.course.journal (seat w).who e → Within law.may h.counts (seat w).who e = λ e k. (k.0.0, λ s q has. omega (arith, k.0.1 who s q has, here s)) in
-        record {
-          shelf_is = ok.shelf_is;
-          goes_by = ok.goes_by;
-          node = record {
-            eight = ok.node.eight;
-            legal = h.ok.legal;
-            follows = ok.node.follows;
-            bounded = ok.node.bounded;
-            own = All-weaker (λ e. MaySend (Sends (j + 1) law.may (sent_by r.0) h.course.journal) (seat w).who e) (λ e. MaySend (Within law.may h.counts) (seat w).who e)
-                (λ e k. record { allowed = up e k.allowed; spelled = k.spelled }) (seat w).node.outbox.entries ok.node.own;
-            few = ok.node.few;
-            waiting = λ some. up _ (ok.node.waiting some);
-          };
-        }
+    -- What the next node sent of its sessions bounds what anybody appended of them.
+    module _ (w : A) (at : slice_get workers k ≡ Some w) where
+      ok : WorkerOk law state spells (k + 1) journal (seat w) (desks w)
+      ok = subst (λ i. WorkerOk law state spells (k + 1) i (seat w) (desks w)) (journal_at k w at) (h.waits k w (omega arith) at).rests.node.ok
 
-    -- no rank of a session of the next node is above those that its desk sent
-    desks_bind : (w : A) → slice_get workers k ≡ Some w → (who : ℕ) (e : Entry) → Within law.may h.counts who e → WithinDesks law.may (desks w) who e
-    desks_bind w at who e allowed =
-        let r = (h.waits k w (omega arith) at).rests.worker in (
-          allowed.0,
-          λ s q d get some has.
-              let there = r.each s d get in
-              omega (arith, allowed.1 s q has, there.sent (home_is lines h.home (length workers) h.lines_are (k + 1) s (length lines) (omega (arith, some, there.asked)))),
-        )
+      bind_own : (e : Entry) → OwnWithin (k + 1) law.may (sent_by (desks w)) (k + 1) e → WithinDesks law.may (desks w) (k + 1) e
+      bind_own e a = (a.0, λ s r d get some has. let low = a.1 refl s r has in let same = sent_is (desks w) s d get in omega (arith, low, same))
+
+      bind_other : (user : ℕ) (e : Entry) → user ≢ k + 1 → law.may user e → WithinDesks law.may (desks w) user e
+      bind_other user e apart a = (a, λ s r d get some has. absurd (apart (ok.home s d get some user r e a has)))
+
+      bind : (user : ℕ) (e : Entry) → Contains (appended_by user journal) e → law.may user e → WithinDesks law.may (desks w) user e
+      bind user e there a = ⊎_elim
+          (λ (same : user ≡ k + 1). subst (λ u. WithinDesks law.may (desks w) u e) (sym same)
+          (bind_own e (own_may (record law { may = OwnWithin (k + 1) law.may (sent_by (desks w)) }) journal (k + 1) e (worker_within law state spells (k + 1) journal (seat w) (desks w) ok) (subst (λ u. Contains (appended_by u journal) e) same there))))
+          (λ (other : user ≢ k + 1). bind_other user e other a)
+          (same_or_other user (k + 1))
+
+      within : IsLegal (record law { may = WithinDesks law.may (desks w) }) journal
+      within = legal_own law (WithinDesks law.may (desks w)) journal (worker_legal law state spells (k + 1) journal (seat w) (desks w) ok) bind
+
+      -- so a node can take the fabric by this, of whose entries it is so
+      seat_binds : (m : ℕ) (s : SeatView) (ds : List Desk) → s.who ≡ m → SeatOk (record law { may = Sends m law.may (sent_by ds) journal }) state spells journal s
+          → ((e : Entry) → OwnWithin m law.may (sent_by ds) m e → WithinDesks law.may (desks w) m e) → SeatOk (record law { may = WithinDesks law.may (desks w) }) state spells journal s
+      seat_binds m s ds who fine binds = record {
+        shelf_is = fine.shelf_is;
+        goes_by = fine.goes_by;
+        node = record {
+          eight = fine.node.eight;
+          legal = within;
+          follows = fine.node.follows;
+          bounded = fine.node.bounded;
+          own = All-weaker (λ e. MaySend (Sends m law.may (sent_by ds) journal) s.who e) (λ e. MaySend (WithinDesks law.may (desks w)) s.who e)
+              (λ e k. record { allowed = up e k.allowed; spelled = k.spelled }) s.node.outbox.entries fine.node.own;
+          few = fine.node.few;
+          waiting = λ some. up _ (fine.node.waiting some);
+        };
+      }
+        where
+          up : (e : Entry) → Sends m law.may (sent_by ds) journal s.who e → WithinDesks law.may (desks w) s.who e
+          up e a = subst (λ u. WithinDesks law.may (desks w) u e) (sym who) (binds e (subst (λ u. OwnWithin m law.may (sent_by ds) u e) who a.0))
 
     pub takes_ok : (j : ℕ) (b w : A) → slice_get workers j ≡ Some b → slice_get workers k ≡ Some w → SeatOk (record law { may = WithinDesks law.may (desks w) }) state spells journal (seat b)
-    takes_ok j b w best at =
-        subst (λ i. SeatOk (record law { may = WithinDesks law.may (desks w) }) state spells i (seat b)) h.journal_is
-        (seat_wider (record law { may = Within law.may h.counts }) (record law { may = WithinDesks law.may (desks w) }) (record { may = desks_bind w at; floor = λ log n free. free; shelf = refl }) state spells h.course.journal (seat b) (bound_ok j b best))
+    takes_ok j b w best at = ⊎_elim
+        (λ (same : j ≡ k).
+        let is : w ≡ b = same_some w b (sym at ∙ (ap (slice_get workers) (sym same) ∙ best)) in
+        subst (λ x. SeatOk (record law { may = WithinDesks law.may (desks w) }) state spells journal (seat x)) is
+        (seat_binds w at (k + 1) (seat w) (desks w) (ok w at).who_is (ok w at).ok (bind_own w at)))
+        (λ (other : j ≢ k).
+        let r = rest_of j b best in
+        let fine = subst (λ i. WorkerOk law state spells (j + 1) i (seat b) r.0) (journal_at j b best) r.1.node.ok in
+        seat_binds w at (j + 1) (seat b) r.0 fine.who_is fine.ok (λ e a. bind_other w at (j + 1) e (λ e. other (omega (arith, e))) a.0))
+        (same_or_other j k)
 
     pub takes_stand : CrewStands law state spells journal seat workers
     takes_stand j w at = stand_ok j w at
@@ -172,7 +213,7 @@ module _ {A : Type 0} (law : Law) (state : List Entry → SpaceMap → Type 0) (
     -- the next node's desks can be answered by the one that has played most
     pub can_take : (b w : A) → slice_get workers node ≡ Some b → slice_get workers k ≡ Some w → CanTakeAll (WithinDesks law.may (desks w)) (node_of (seat b) journal) (desks w)
     can_take b w best at = λ s d get.
-        let fine = ok.each s d get in
+        let fine = (ok w at).each s d get in
         record {
           session = fine.session;
           known = fine.known;
@@ -185,20 +226,18 @@ module _ {A : Type 0} (law : Law) (state : List Entry → SpaceMap → Type 0) (
               (subst (λ i. IsFront Holds i log) (sym (append-nil journal)) front)
               (let upto = acted.upto in let short = (h.waits k w (omega arith) at).short in let size = h.size in let most = h.most b best in omega (arith, upto, short, size, most, long)) acted.are;
         }
-      where
-        ok : WorkerOk law state spells (k + 1) journal (seat w) (desks w)
-        ok = subst (λ i. WorkerOk law state spells (k + 1) i (seat w) (desks w)) h.journal_is (h.waits k w (omega arith) at).rests.worker.ok
 
     -- Answers were taken at worker k.
     module _ (workers' : List A) (long : length workers' ≡ length workers) (turned : (j : ℕ) (w' : A) → slice_get workers' j ≡ Some w' → (w : A) × (slice_get workers j ≡ Some w) × Turned law state spells journal seat desks k j w w') where
       pub stands_then : CrewStands law state spells journal seat workers'
       stands_then j w' at = (turned j w' at).2.ok
 
-      rests_then : (j : ℕ) (w w' : A) (ds : List Desk) → Turned law state spells journal seat desks k j w w' → Rests law state spells lines h.home (length workers) h.course h.counts looks (j + 1) (length lines) h.course.phase (seat w) ds
-          → Rests law state spells lines h.home (length workers) h.course h.counts looks (j + 1) (length lines) h.course.phase (seat w') ds
-      rests_then j w w' ds t r =
-          rests_same law state spells lines h.home (length workers) h.course h.counts looks (j + 1) (length lines) h.course.phase (seat w) (seat w') ds
-          (subst (λ i. node_of (seat w') i ≡ node_of (seat w) i) (sym h.journal_is) t.same) (subst (λ i. SeatOk law state spells i (seat w')) (sym h.journal_is) t.ok) r
+      rests_then : (j : ℕ) (w w' : A) (ds : List Desk) → slice_get workers j ≡ Some w → Turned law state spells journal seat desks k j w w' → Rests law state spells lines h.home (length workers) (h.courses (j + 1)) looks (j + 1) (length lines) (h.courses (j + 1)).phase (seat w) ds
+          → Rests law state spells lines h.home (length workers) (h.courses (j + 1)) looks (j + 1) (length lines) (h.courses (j + 1)).phase (seat w') ds
+      rests_then j w w' ds at t r =
+          let seen = journal_at j w at in
+          rests_same law state spells lines h.home (length workers) (h.courses (j + 1)) looks (j + 1) (length lines) (h.courses (j + 1)).phase (seat w) (seat w') ds
+          (subst (λ i. node_of (seat w') i ≡ node_of (seat w) i) (sym seen) t.same) (subst (λ i. SeatOk law state spells i (seat w')) (sym seen) t.ok) r
 
       cursor_same : (j : ℕ) (w w' : A) → Turned law state spells journal seat desks k j w w' → (seat w').node.replica.cursor ≡ (seat w).node.replica.cursor
       cursor_same j w w' t = ap (λ (x : NodeView). x.replica.cursor) t.same
@@ -207,7 +246,7 @@ module _ {A : Type 0} (law : Law) (state : List Entry → SpaceMap → Type 0) (
         desk_closed : (s : ℕ) (w w' : A) (d : Desk) → slice_get workers k ≡ Some w → slice_get workers' k ≡ Some w' → slice_get (desks w) s ≡ Some d → DeskClosed h.log s d (desks w')
         desk_closed s w w' d at at' get =
             let one = (takes w w' at at').each s d get in
-            let fine = (h.waits k w (omega arith) at).rests.worker.ok.each s d get in
+            let fine = (h.waits k w (omega arith) at).rests.node.ok.each s d get in
             record {
               now = one.desk;
               is = one.is;
@@ -226,16 +265,16 @@ module _ {A : Type 0} (law : Law) (state : List Entry → SpaceMap → Type 0) (
         })
 
         taken : (j : ℕ) (w w' : A) → j < k + 1 → slice_get workers j ≡ Some w → slice_get workers' j ≡ Some w' → Turned law state spells journal seat desks k j w w'
-            → WorkerClosed law state spells lines h.home (length workers) h.course h.counts looks h.log (j + 1) (record { seat = seat w'; desks = desks w' })
+            → WorkerClosed law state spells lines h.home (length workers) (h.courses (j + 1)) looks h.log (j + 1) (record { seat = seat w'; desks = desks w' })
         taken j w w' less at at' t = by (cases_lt j k)
           where
-            by : (j < k) ⊎ (k ≤ j) → WorkerClosed law state spells lines h.home (length workers) h.course h.counts looks h.log (j + 1) (record { seat = seat w'; desks = desks w' })
+            by : (j < k) ⊎ (k ≤ j) → WorkerClosed law state spells lines h.home (length workers) (h.courses (j + 1)) looks h.log (j + 1) (record { seat = seat w'; desks = desks w' })
             by (inl low) =
                 let old = h.taken j w low at in
                 let kept = t.kept (λ e. absurd (omega (arith, low, e))) in
                 record {
                   was = old.was;
-                  rests = rests_then j w w' old.was t old.rests;
+                  rests = rests_then j w w' old.was at t old.rests;
                   short = let same = cursor_same j w w' t in let short = old.short in omega (arith, same, short);
                   size = ap length kept ∙ old.size;
                   each = λ s d get. subst (DeskClosed h.log s d) (sym kept) (old.each s d get);
@@ -247,7 +286,7 @@ module _ {A : Type 0} (law : Law) (state : List Entry → SpaceMap → Type 0) (
                 let old = h.waits j w high at in
                 record {
                   was = desks w;
-                  rests = rests_then j w w' (desks w) t old.rests;
+                  rests = rests_then j w w' (desks w) at t old.rests;
                   short = let same = cursor_same j w w' t in let short = old.short in omega (arith, same, short);
                   size = (takes w w' at-k at-k').size;
                   each = λ s d get. desk_closed s w w' d at-k at-k' get;
@@ -256,12 +295,15 @@ module _ {A : Type 0} (law : Law) (state : List Entry → SpaceMap → Type 0) (
         pub takes_more : CrewTakes law state spells lines node cursor (k + 1) journal looks seat desks workers'
         takes_more = record {
           home = h.home;
-          course = h.course;
-          counts = h.counts;
-          journal_is = h.journal_is;
+          run = h.run;
+          courses = h.courses;
+          seen_is = h.seen_is;
           lines_are = subst (AreLines lines h.home) (sym long) h.lines_are;
-          ok = subst (λ n. CourseOk law lines n h.course h.counts looks) (sym long) h.ok;
+          joined = subst (λ n. AreJoined law lines h.home n h.run looks h.courses) (sym long) h.joined;
           over = h.over;
+          made = h.made;
+          seals = subst (λ n. SealsOfNodes n journal) (sym long) h.seals;
+          behind = h.behind;
           log = h.log;
           size = h.size;
           front = h.front;
@@ -270,16 +312,16 @@ module _ {A : Type 0} (law : Law) (state : List Entry → SpaceMap → Type 0) (
           most = λ w' at'. let t = turned node w' at' in cursor_same node t.0 w' t.2 ∙ h.most t.0 t.1;
           taken = λ j w' less at'.
               let t = turned j w' at' in
-              subst (λ n. WorkerClosed law state spells lines h.home n h.course h.counts looks h.log (j + 1) (record { seat = seat w'; desks = desks w' })) (sym long) (taken j t.0 w' less t.1 at' t.2);
+              subst (λ n. WorkerClosed law state spells lines h.home n (h.courses (j + 1)) looks h.log (j + 1) (record { seat = seat w'; desks = desks w' })) (sym long) (taken j t.0 w' less t.1 at' t.2);
           waits = λ j w' high at'.
               let t = turned j w' at' in
               let old = h.waits j t.0 (omega (arith, high)) t.1 in
               let kept = t.2.kept (λ e. absurd (omega (arith, high, e))) in
-              let now : WaitsToTake law state spells lines h.home (length workers) h.course h.counts looks h.log (j + 1) (seat w') (desks w') = record {
-                rests = subst (Rests law state spells lines h.home (length workers) h.course h.counts looks (j + 1) (length lines) h.course.phase (seat w')) (sym kept) (rests_then j t.0 w' (desks t.0) t.2 old.rests);
+              let now : WaitsToTake law state spells lines h.home (length workers) (h.courses (j + 1)) looks h.log (j + 1) (seat w') (desks w') = record {
+                rests = subst (Rests law state spells lines h.home (length workers) (h.courses (j + 1)) looks (j + 1) (length lines) (h.courses (j + 1)).phase (seat w')) (sym kept) (rests_then j t.0 w' (desks t.0) t.1 t.2 old.rests);
                 short = let same = cursor_same j t.0 w' t.2 in let short = old.short in omega (arith, same, short);
               } in
-              subst (λ n. WaitsToTake law state spells lines h.home n h.course h.counts looks h.log (j + 1) (seat w') (desks w')) (sym long) now;
+              subst (λ n. WaitsToTake law state spells lines h.home n (h.courses (j + 1)) looks h.log (j + 1) (seat w') (desks w')) (sym long) now;
         }
 
     -- the same node, which has made no event

@@ -1,11 +1,13 @@
 -- What a node's last calls come to.
-use Rattle.std.specs.Prelude.{◌≡◌, ℕ, ◌≤◌, ◌⊎◌, true, false, [], ◌∷◌}
+use Rattle.std.specs.Prelude.{◌≡◌, ℕ, ◌≤◌, ◌⊎◌, Bool, true, false, [], ◌∷◌}
 use Rattle.delos_types.specs.declared.cause.Cause.{Cause}
 use Rattle.engine_steps.specs.Layout.{has_left_in}
 use Rattle.virtual_log.specs.Turning.{IsAbove}
 use Rattle.base_engine.specs.Following.{IsAt, EndsBy}
 use Rattle.base_engine.specs.Node.{NodeView}
 use Rattle.node_lines.specs.Moving.{Spends}
+use Rattle.run_closing.specs.declared.last.Calls.{Calls}
+use Rattle.run_closing.specs.declared.last.Calls.TheVariants.{OfMembers, OfAny}
 
 -- the log or the disk failed since, by a fault of its own
 pub record Fails (old new : NodeView) : Type 0 where
@@ -36,16 +38,27 @@ pub record IsPlayed (old new : NodeView) : Type 0 where
 abbrev pub PlaysOut : NodeView → NodeView → Type 0
 PlaysOut old new = IsPlayed old new ⊎ Fails old new
 
--- it has left, as its state tells, and is as it was
-pub record IsPassedBy (number : ℕ) (old new : NodeView) : Type 0 where
-  pub left : has_left_in old.replica.contents number ≡ true
+-- The node with this number makes no last calls, where it is members that make them: it left by a line, or as its state tells.
+abbrev pub HasGone : Calls → ℕ → NodeView → Type 0
+HasGone (OfMembers left) number n = (left ≡ true) ⊎ (has_left_in n.replica.contents number ≡ true)
+HasGone OfAny number n = ⊥
+
+-- it makes last calls
+abbrev pub IsCalled : Calls → ℕ → NodeView → Type 0
+IsCalled (OfMembers left) number n = (left ≡ false) × (has_left_in n.replica.contents number ≡ false)
+IsCalled OfAny number n = Unit {0}
+
+-- it has left, and is as it was
+pub record IsPassedBy (calls : Calls) (number : ℕ) (old new : NodeView) : Type 0 where
+  pub left : HasGone calls number old
   pub same : new ≡ old
 
--- it hasn't left, as its state tells, and plays the log
-pub record PlaysOn (number : ℕ) (old new : NodeView) : Type 0 where
-  pub stays : has_left_in old.replica.contents number ≡ false
+-- it plays the log
+pub record PlaysOn (calls : Calls) (number : ℕ) (old new : NodeView) : Type 0 where
+  pub stays : IsCalled calls number old
   pub plays : PlaysOut old new
 
--- of the node with that number
-abbrev pub Finishes : ℕ → NodeView → NodeView → Type 0
-Finishes number old new = IsPassedBy number old new ⊎ PlaysOn number old new
+-- one of both, by whether it was passed by
+abbrev pub Finishes : Calls → ℕ → Bool → NodeView → NodeView → Type 0
+Finishes calls number true old new = IsPassedBy calls number old new
+Finishes calls number false old new = PlaysOn calls number old new

@@ -27,8 +27,8 @@ pub struct Closed<L: Loglet, R: Register, K: Terms, S: Replica, C: Chooser> {
 }
 
 /// Closes a run whose lines are all played: the register is opened again where it is down; each node in order, but for one that has
-/// left, opens its store again where it is down and plays the log to a tail; the answers of all sessions are then taken at the node
-/// that has played most of it.
+/// left, opens its store again where it is down and plays the log to a tail, and where all have left, the one that has played most of
+/// it; the answers of all sessions are then taken at the node that has played most of it.
 ///
 /// Cost: at most two events of the register; for each node what it has still to play, and for each session that asked something a look
 /// at the store for each answer that is taken, and one more.

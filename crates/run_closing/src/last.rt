@@ -1,10 +1,11 @@
 //! A node's last calls.
-ghost use Rattle.std.specs.Prelude.{◌≡◌, ◌≤◌, ℕ, List, [], length, IfOk, OnOk};
+ghost use Rattle.std.specs.Prelude.{◌≡◌, ◌≤◌, ℕ, true, false, List, [], length, IfOk, OnOk};
 ghost use Rattle.delos_types.specs.declared.entry.Entry.{Entry};
+ghost use Rattle.legal_journal.specs.Journal.{IsLegal};
 ghost use Rattle.virtual_log.specs.Holding.{Holds};
 ghost use Rattle.base_engine.specs.Following.{Follows};
 ghost use Rattle.node_lines.specs.Moving.{Moves};
-ghost use Rattle.run_closing.specs.Ending.{Reopens, PlaysOut, Finishes};
+ghost use Rattle.run_closing.specs.Ending.{Reopens, PlaysOut, HasGone, IsCalled, Finishes};
 
 use base_engine::fault::Fault;
 use base_engine::node::Node;
@@ -15,6 +16,22 @@ use legal_journal::turns::Turns;
 use replica_api::replica::Replica;
 use std::alloc::AllocError;
 use virtual_log::log::VirtualLog;
+
+/// Whose last calls they are.
+#[derive(Clone, Copy)]
+pub enum Calls {
+    /// A member's: not those of a node that has left, as its state tells, or by a line of its own where that is so.
+    OfMembers { left: bool },
+    /// Any node's.
+    OfAny,
+}
+
+/// How many entries of the log a node's state has, and whether the node was passed by.
+#[derive(Clone, Copy)]
+pub struct Reach {
+    pub cursor: u64,
+    pub passed: bool,
+}
 
 /// Opens the store again, with word 0, where it is down. Where the disk fails it stays down.
 fn reopen<T: Turns, C: Chooser, R: Replica>(
@@ -53,27 +70,58 @@ fn play_out<T: Turns, C: Chooser, R: Replica>(
     }
 }
 
-/// The node's last calls. One that has left, as its state tells, is passed by. Another opens its store again where it is down, finds a
-/// tail of the log, and plays up to it; where the disk or the log fails, its state stays as far as it came. Answers how many entries
+/// Whether a node is passed by: one that has left, where members make last calls.
+fn is_passed<T: Turns, C: Chooser, R: Replica>(
+    node: &Node<VirtualLog<T, C>, R>,
+    number: NodeId,
+    calls: Calls,
+) -> Result<bool, AllocError>
+    ensures gone { IfOk result (λ passed. passed ≡ true → HasGone calls number node.now) }
+    ensures called { IfOk result (λ passed. passed ≡ false → IsCalled calls number node.now) }
+    ensures legal { IfOk result (λ passed. passed ≡ true → IsLegal T.Law.law node.now.seen) }
+{
+    match calls {
+        Calls::OfMembers { left } => {
+            let told = node.has_left(number)?;
+            if left {
+                return Ok(true);
+            }
+            return Ok(told);
+        }
+        Calls::OfAny => return Ok(false),
+    }
+}
+
+/// The node's last calls. One that has left is passed by, where members make them. Another opens its store again where it is down, finds
+/// a tail of the log, and plays up to it; where the disk or the log fails, its state stays as far as it came. Answers how many entries
 /// of the log the node's state has then.
 pub fn finish<T: Turns, C: Chooser, R: Replica>(
     node: &mut Node<VirtualLog<T, C>, R>,
     number: NodeId,
-) -> Result<u64, AllocError>
+    calls: Calls,
+) -> Result<Reach, AllocError>
     requires floor { (log : List Entry) (n : ℕ) → T.Law.law.floor log n → n ≤ length log }
     ensures moves { OnOk result (Moves T.Law.law node.old node.new []) }
-    ensures plays { OnOk result (Finishes number node.old node.new) }
+    ensures plays { IfOk result (λ reach. Finishes calls number reach.passed node.old node.new) }
     ensures follows { OnOk result (Follows Holds R.state R.spells node.new.seen node.new.replica) }
     ensures outbox { OnOk result (node.new.outbox ≡ node.old.outbox) }
     ensures kept { OnOk result (node.new.replica.kept ≡ node.old.replica.kept) }
-    ensures cursor { IfOk result (λ n. n ≡ node.new.replica.cursor) }
+    ensures cursor { IfOk result (λ reach. reach.cursor ≡ node.new.replica.cursor) }
 {
-    let left = node.has_left(number)?;
-    if left {
-        return Ok(node.cursor());
+    let passed = is_passed(node, number, calls)?;
+    if passed {
+        return Ok(Reach {
+            cursor: node.cursor(),
+            passed: true,
+        });
     }
     match play_out(node) {
-        Ok(cursor) => return Ok(cursor),
+        Ok(cursor) => {
+            return Ok(Reach {
+                cursor,
+                passed: false,
+            });
+        }
         Err(fault) => return Err(fault),
     }
 }

@@ -1,5 +1,5 @@
 //! The answers of all sessions, taken at one node.
-ghost use Rattle.std.specs.Prelude.{◌≡◌, ◌≢◌, ◌<◌, ◌≤◌, ◌+◌, length, OnOk};
+ghost use Rattle.std.specs.Prelude.{◌≡◌, ◌≢◌, ◌<◌, ◌+◌, length, OnOk};
 ghost use Rattle.node_lines.specs.Workers.{MayRun};
 ghost use Rattle.node_crew.specs.Crews.{CrewStands};
 ghost use Rattle.run_closing.specs.Taking.{CrewTakes};

@@ -11,7 +11,7 @@ ghost use Rattle.run_closing.specs.Ending.{Finishes};
 ghost use Rattle.run_closing.specs.Collecting.{CanTakeAll, TakesAll, WithinDesks};
 
 use crate::answers::take_all;
-use crate::last::finish;
+use crate::last::{Calls, Reach, finish};
 use delos_types::numbers::NodeId;
 use fate_words::chooser::Chooser;
 use node_lines::desk::Desk;
@@ -28,7 +28,8 @@ fn finish_within<A: Access, Q: Scope, S: Replica, C: Chooser>(
     access: A,
     worker: Worker<S, C>,
     number: NodeId,
-) -> Back<A, Worker<S, C>, u64>
+    calls: Calls,
+) -> Back<A, Worker<S, C>, Reach>
     requires floor { (log : List Entry) (n : ℕ) → Q.law.floor log n → n ≤ length log }
     requires who { worker.seat.who ≡ A.who access }
     requires narrows { Narrows Q.law A.Law.law (A.beside (A.who access)) }
@@ -42,14 +43,14 @@ fn finish_within<A: Access, Q: Scope, S: Replica, C: Chooser>(
     ensures since { Since result.part.seat.who (A.beside result.part.seat.who) (A.seen access) (A.seen result.access) }
     ensures right { SealsByRight (Q.seals result.part.seat.who) result.part.seat.who (A.seen access) (A.seen result.access) }
     ensures moves { OnOk result.answer (Moves Q.law (node_of worker.seat (A.seen access)) (node_of result.part.seat (A.seen result.access)) []) }
-    ensures plays { OnOk result.answer (Finishes number (node_of worker.seat (A.seen access)) (node_of result.part.seat (A.seen result.access))) }
+    ensures plays { IfOk result.answer (λ reach. Finishes calls number reach.passed (node_of worker.seat (A.seen access)) (node_of result.part.seat (A.seen result.access))) }
     ensures outbox { OnOk result.answer (result.part.seat.node.outbox ≡ worker.seat.node.outbox) }
     ensures kept { OnOk result.answer (result.part.seat.node.replica.kept ≡ worker.seat.node.replica.kept) }
-    ensures cursor { IfOk result.answer (λ n. n ≡ result.part.seat.node.replica.cursor) }
+    ensures cursor { IfOk result.answer (λ reach. reach.cursor ≡ result.part.seat.node.replica.cursor) }
 {
     let Worker { seat, desks } = worker;
     let mut node = seat.wake::<A, Q>(access);
-    let answer = finish(&mut node, number);
+    let answer = finish(&mut node, number, calls);
     let (seat, access) = rest(node);
     Back {
         part: Worker { seat, desks },
@@ -58,14 +59,15 @@ fn finish_within<A: Access, Q: Scope, S: Replica, C: Chooser>(
     }
 }
 
-/// The last calls of a worker's node, which has that number: one that has left, as its state tells, is passed by; another opens its
+/// The last calls of a worker's node, which has that number: one that has left is passed by, where members make them; another opens its
 /// store again where it is down, and plays the log to a tail. Its desks stay as they are. Answers how many entries of the log the
 /// node's state has then.
 pub fn finish_worker<A: Access, S: Replica, C: Chooser>(
     access: A,
     worker: Worker<S, C>,
     number: NodeId,
-) -> Back<A, Worker<S, C>, u64>
+    calls: Calls,
+) -> Back<A, Worker<S, C>, Reach>
     requires run { MayRun A.Law.law }
     requires who { worker.seat.who ≡ A.who access }
     requires alone { IsAlone (A.beside (A.who access)) }
@@ -75,12 +77,12 @@ pub fn finish_worker<A: Access, S: Replica, C: Chooser>(
     ensures left { IsLeft A.Law.law S.state S.spells A.beside ⊥ (A.seen access) worker.seat (A.seen result.access) result.part.seat }
     ensures worker { OnOk result.answer (WorkerOk A.Law.law S.state S.spells worker.seat.who (A.seen result.access) result.part.seat result.part.desks.items) }
     ensures moves { OnOk result.answer (Moves (record A.Law.law { may = OwnWithin worker.seat.who A.Law.law.may (sent_by worker.desks.items) }) (node_of worker.seat (A.seen access)) (node_of result.part.seat (A.seen result.access)) []) }
-    ensures plays { OnOk result.answer (Finishes number (node_of worker.seat (A.seen access)) (node_of result.part.seat (A.seen result.access))) }
+    ensures plays { IfOk result.answer (λ reach. Finishes calls number reach.passed (node_of worker.seat (A.seen access)) (node_of result.part.seat (A.seen result.access))) }
     ensures outbox { OnOk result.answer (result.part.seat.node.outbox ≡ worker.seat.node.outbox) }
-    ensures cursor { IfOk result.answer (λ n. n ≡ result.part.seat.node.replica.cursor) }
+    ensures cursor { IfOk result.answer (λ reach. reach.cursor ≡ result.part.seat.node.replica.cursor) }
     ensures adds { OwnAdds worker.seat.who IsOfSessions (A.seen access) (A.seen result.access) }
 {
-    finish_within::<A, Brand, S, C>(access, worker, number)
+    finish_within::<A, Brand, S, C>(access, worker, number, calls)
 }
 
 /// Takes the answers of all these sessions from a node's state, within a scope.

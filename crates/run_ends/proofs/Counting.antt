@@ -2,7 +2,7 @@
 use Rattle.std.proofs.Common.{◌≡◌, refl, sym, ap, ◌∙◌, subst, ◌⊎◌, inl, inr, ℕ, zero, suc, ◌+◌, ◌-◌, ◌^◌, ◌<◌, ◌≤◌, ◌==◌, ◌&&◌, nat_le, min, Bool, true, false, cond, List, [], ◌∷◌, Option, Some, None, length, Contains, count_by, slice_get, arith, eqb-true, eq-eqb, le-leb}
 use Rattle.std.specs.List.{AllByRecursion}
 use Rattle.std.proofs.lemmas.Bool.{and_from, and_parts, both_ways, cases_lt, false_from_ne_true, or_left, or_right}
-use Rattle.std.proofs.lemmas.Option.{slice_get_cases}
+use Rattle.std.proofs.lemmas.Option.{slice_get_within, slice_get_cases}
 use Rattle.std.proofs.lemmas.List.{length-map}
 use Rattle.delos_types.specs.Spaces.{SpaceMap}
 use Rattle.delos_types.specs.declared.entry.Entry.{Entry}
@@ -26,8 +26,9 @@ use Rattle.fitting_run.specs.Faults.{is_full, lacks_of, faults_of, disk_faults, 
 use Rattle.node_lines.specs.declared.lines.Looked.{Looked}
 use Rattle.run_laws.specs.Ended.{Played, Fault, FaultsCame, PaidStands, counted, most_faults, paid_by, pays}
 use Rattle.run_laws.proofs.Members.{Among, all-at, all-of, contains-among}
-use Rattle.run_course.specs.Script.{failed_looks, failure_of_look}
-use Rattle.run_course.proofs.Lines.{count-cons}
+use Rattle.node_course.specs.Script.{failed_looks, failure_of_look}
+use Rattle.node_course.proofs.Lines.{count-cons}
+use Rattle.node_course.proofs.Faulting.{all_events, of_nodes, own_stores}
 use Rattle.run_ends.specs.Closing.{WorkerEnd, HasClosed, IsGivenBack}
 use Rattle.run_ends.specs.Rows.{played_of}
 
@@ -173,7 +174,10 @@ module _ (law : Law) (told : AreCounted law) (state : List Entry → SpaceMap �
   played = played_of lines rows looks
 
   abbrev faults : List Fault
-  faults = h.course.faults
+  faults = h.run.faults
+
+  of_their_nodes : AllByRecursion (λ f. (1 ≤ f.node) × (f.node ≤ length workers)) faults
+  of_their_nodes = of_nodes law lines h.home (length workers) h.run looks h.courses h.joined
 
   -- how many faults came by such causes
   abbrev came_by : (ℕ → Cause → Bool) → ℕ
@@ -187,7 +191,7 @@ module _ (law : Law) (told : AreCounted law) (state : List Entry → SpaceMap �
 
   -- the journal tells each of them, but for those of stores
   in_journal : (P : Cause → Bool) → P cause.Store ≡ false → came_by (λ n. P) ≤ count_by P (faults_in journal)
-  in_journal P store = subst (λ j. came_by (λ n. P) ≤ count_by P (faults_in j)) h.journal_is (h.ok.events P store)
+  in_journal P store = subst (λ j. came_by (λ n. P) ≤ count_by P (faults_in j)) h.seen_is (all_events law lines h.home (length workers) h.run looks h.courses h.joined P store h.lines_are)
 
   -- the journal tells this cause
   in_journal_one : (P : Cause → Bool) (k : Cause) → ((j : Cause) → P j ≡ true → j ≡ k) → 1 ≤ count_by P (faults_in journal) → Contains (faults_in journal) k
@@ -250,9 +254,11 @@ module _ (law : Law) (told : AreCounted law) (state : List Entry → SpaceMap �
     where
       at_worker : (j : ℕ) (w : WorkerEnd) → slice_get workers j ≡ Some w → min (came_by (lacks_store (j + 1))) most_faults ≤ disk_faults yard.disks (j + 1)
       at_worker j w is =
-          let counts = (h.each j w is).rests.worker.stores in
+          let counts = (h.each j w is).rests.node.stores in
+          let low = slice_get_within workers j w is in
+          let same = own_stores law lines h.home (length workers) h.run looks h.courses h.joined (j + 1) (omega arith) (omega (arith, low)) in
           let disk = back.disks j w is in
-          omega (arith, counts, disk)
+          omega (arith, counts, same, disk)
 
       -- nothing comes of a node that isn't there
       nowhere : (1 ≤ n → n ≤ length workers → ⊥) → min (came_by (lacks_store n)) most_faults ≤ disk_faults yard.disks n
@@ -262,7 +268,7 @@ module _ (law : Law) (told : AreCounted law) (state : List Entry → SpaceMap �
             | inl none ↦ omega (arith, looked, none)
             | inr some ↦ absurd (let one = counted_among (λ (f : Fault). lacks_store n f.node f.cause) faults some in
                 let is = store_at n one.0.node one.0.cause one.2 in
-                let there = all-at (λ (f : Fault). (1 ≤ f.node) × (f.node ≤ length workers)) faults one.0 h.ok.nodes_are one.1 in
+                let there = all-at (λ (f : Fault). (1 ≤ f.node) × (f.node ≤ length workers)) faults one.0 of_their_nodes one.1 in
                 let low = there.0 in
                 let high = there.1 in
                 out (omega (arith, low, is)) (omega (arith, high, is)))
@@ -320,7 +326,7 @@ module _ (law : Law) (told : AreCounted law) (state : List Entry → SpaceMap �
   faults_came = record {
     stand = all-of (λ (f : Fault). stands yard f.node f.cause ≡ true) faults (λ f m. came_stands f.node f.cause (fault_came f m));
     paid = all-of (PaidStands yard) played (λ t m k is. came_stands t.line.node k (look_came t m k is));
-    nodes = subst (λ n. AllByRecursion (λ (f : Fault). (1 ≤ f.node) × (f.node ≤ n)) faults) (sym back.nodes) h.ok.nodes_are;
+    nodes = subst (λ n. AllByRecursion (λ (f : Fault). (1 ≤ f.node) × (f.node ≤ n)) faults) (sym back.nodes) of_their_nodes;
     lacks = λ cell.
         let few = counted_few (lacks_quorum cell) (λ n. is_lack_of cell) (lacks_it cell) in
         let a = in_journal (is_lack_of cell) refl in

@@ -1,5 +1,5 @@
 -- A run whose nodes have closed has ended.
-use Rattle.std.proofs.Common.{◌≡◌, refl, sym, ap, ◌∙◌, subst, ⊎_elim, ◌⊎◌, ℕ, zero, suc, ◌-◌, ◌<◌, ◌≤◌, ◌==◌, ◌&&◌, true, List, [], ◌∷◌, ◌++◌, Some, None, is_some, map, length, take, drop, slice_get, Option, Contains, arith, eq-eqb, take-append-drop}
+use Rattle.std.proofs.Common.{◌≡◌, refl, sym, ap, ◌∙◌, subst, ⊎_elim, ◌⊎◌, ℕ, zero, suc, ◌+◌, ◌-◌, ◌<◌, ◌≤◌, ◌==◌, ◌&&◌, true, List, [], ◌∷◌, ◌++◌, Some, None, is_some, map, length, take, drop, slice_get, Option, Contains, arith, eq-eqb, take-append-drop}
 use Rattle.std.specs.List.{AllByRecursion}
 use Rattle.std.proofs.lemmas.Bool.{and_from}
 use Rattle.std.proofs.lemmas.List.{length-map, length-take}
@@ -13,10 +13,8 @@ use Rattle.legal_journal.specs.Journal.{IsLegal, state_of, tail_of, trim_of}
 use Rattle.legal_journal.proofs.Log.{slice_get_front}
 use Rattle.virtual_log.specs.Holding.{Holds}
 use Rattle.delos_types.specs.declared.place.Place.{Place}
-use Rattle.journal_laws.proofs.Changes.{held_appended}
 use Rattle.engine_api.specs.declared.content.Content.{Content}
 use Rattle.engine_api.specs.declared.content.Content.TheVariants as content
-use Rattle.engine_api.specs.Items.{unpack}
 use Rattle.engine_api.specs.Acted.{Asked, asked_in}
 use Rattle.engine_api.specs.Order.{first_of, is_clean}
 use Rattle.replica_api.specs.Replica.{Saved}
@@ -30,34 +28,37 @@ use Rattle.row_text.specs.declared.row.Outcome.TheVariants as out
 use Rattle.fabric_core.specs.Fabric.{IsRegisterAsTold}
 use Rattle.fitting_run.specs.declared.told.Told.{Told}
 use Rattle.fitting_run.specs.Fits.{ChainIsRegistered}
-use Rattle.fitting_run.specs.Lines.{are_in_phase, are_ranked, is_of}
+use Rattle.fitting_run.specs.Lines.{are_in_phase, are_ranked, is_of, logs_for}
 use Rattle.fitting_run.specs.Yard.{Shown}
-use Rattle.turn_scopes.proofs.Widening.{legal_wider}
 use Rattle.turn_scopes.proofs.Moments.{held_sent}
 use Rattle.node_lines.specs.UnderWay.{HasRank}
 use Rattle.node_lines.proofs.Catching.{appears_in}
 use Rattle.node_lines.specs.declared.desk.Desk.{Desk}
 use Rattle.node_lines.specs.declared.lines.Looked.{Looked}
 use Rattle.node_lines.specs.declared.lines.Looked.TheVariants as looked
-use Rattle.node_lines.specs.Workers.{MayRun, Within, sent_of}
-use Rattle.node_lines.proofs.Bounding.{front_below, tail_bounds}
+use Rattle.node_lines.specs.Workers.{IsHome, MayRun}
+use Rattle.node_lines.proofs.Bounding.{front_below}
 use Rattle.run_ends.specs.Rules.{AreOfLines, may_of}
-use Rattle.run_ends.proofs.Rules.{asked_by}
+use Rattle.run_ends.proofs.Rules.{asked_by, session_home}
 use Rattle.run_laws.specs.Ended.{AllAfter, CameOf, FaultsCame, IsAtHome, IsOfEarlier, IsOfLine, LineEnded, LogStands, LogsThis, Played, Replacements, RunEnded, SaysFrom, SaysTrim, SessionEnded, StandsFrom, rank_in}
 use Rattle.run_laws.proofs.Members.{among-found, contained-among}
-use Rattle.run_course.specs.Replacing.{Replaced}
-use Rattle.run_course.specs.Reporting.{StandsThere}
-use Rattle.run_course.specs.Behind.{IsUnsent}
-use Rattle.run_course.specs.Telling.{AskedFor, TellsAtLeast, ToldSo}
-use Rattle.run_course.proofs.Stands.{says_one}
+use Rattle.node_course.specs.Moments.{moment, tails}
+use Rattle.node_course.specs.Reporting.{StandsThere}
+use Rattle.node_course.specs.Telling.{AskedFor, TellsAtLeast}
+use Rattle.node_course.proofs.Behind.{rank_high, read_high}
+use Rattle.node_course.proofs.Moments.{grown_legal, grown_on}
+use Rattle.node_course.proofs.Parts.{run_rises, run_seen}
+use Rattle.node_course.proofs.Ranks.{node_is_home, rank_counts}
+use Rattle.node_course.proofs.Trimmed.{report_behind, trim_stands}
 use Rattle.run_ends.specs.Closing.{HasClosed, IsGivenBack, WorkerEnd}
 use Rattle.run_ends.specs.Ends.{cursor_at, cursor_of, end_of}
 use Rattle.run_ends.specs.Rows.{AreRows, Tells, desk_for, played_of}
 use Rattle.run_ends.proofs.Turns.{all_lines, lines_are, rows_are, some_at, turn_is, turn_of}
-use Rattle.run_ends.proofs.Lines.{early_line, leave_played, report_played}
+use Rattle.run_ends.proofs.Lines.{early_line, leave_played}
+use Rattle.run_ends.proofs.Sessions.{legal as run_is_legal, size as looks_size, some as some_node}
 use Rattle.run_ends.proofs.Placing.{appeared_by}
 use Rattle.run_ends.proofs.Reports.{alive_is, retired_is}
-use Rattle.run_ends.proofs.Showing.{said_high, stood_from}
+use Rattle.run_ends.proofs.Showing.{stood_from}
 use Rattle.run_ends.proofs.Trims.{clean_below, trimmed_is, trims_ended}
 use Rattle.run_ends.proofs.Replacements.{replacements}
 
@@ -88,8 +89,21 @@ module _ (law : Law) (state : List Entry → SpaceMap → Type 0) (spells : List
   abbrev played : List Played
   played = played_of lines o.rows looks
 
+  size : length looks ≡ length lines
+  size = looks_size law state spells lines journal looks log workers h
+
+  some : 1 ≤ length workers
+  some = some_node law state spells lines journal looks log workers h
+
+  legal_then : IsLegal law h.run.seen
+  legal_then = run_is_legal law state spells lines journal looks log workers h
+
+  -- of a session its home alone appends commands
+  own : (s : ℕ) → IsHome law.may s (h.home s)
+  own s = λ user r e allowed has. session_home lines h.home (length workers) h.lines_are s user r e (mine user e allowed) has
+
   pub played_lines : map (λ t. t.line) played ≡ lines
-  played_lines = lines_are lines o.rows looks are.size h.ok.size
+  played_lines = lines_are lines o.rows looks are.size size
 
   -- each entry of the log is some line's
   of_lines : AreOfLines lines log
@@ -103,9 +117,9 @@ module _ (law : Law) (state : List Entry → SpaceMap → Type 0) (spells : List
   first_of_lines n = each_there (λ (e : Entry). (who : ℕ) × may_of lines who e) (take n log) (λ pos e at. let sent = held_sent law journal pos e back.legal (h.front pos e (first_is n pos e at)) in (sent.0, mine sent.0 e sent.1))
 
   -- what stood there when a phase began is of a line of an earlier one
-  early : (phase : ℕ) (x : Asked) → Contains (asked_in 0 (take (h.course.tails phase) log)) x → IsOfEarlier played phase x
+  early : (phase : ℕ) (x : Asked) → Contains (asked_in 0 (take (tails h.run phase) log)) x → IsOfEarlier played phase x
   early phase x has =
-      let n = h.course.tails phase in
+      let n = tails h.run phase in
       let k = asked_by lines (take n log) (first_of_lines n) x has in
       let t = turn_of played k.at k.line (ap (λ ls. slice_get ls k.at) played_lines ∙ k.is) in
       let logs = logs_so k.line.asks x k.logs in
@@ -113,7 +127,7 @@ module _ (law : Law) (state : List Entry → SpaceMap → Type 0) (spells : List
       let within = slice_get_within (take n log) there.0 there.1 there.2 in
       let size = length-take n log in
       let before : k.line.phase < phase =
-      early_line law state spells run lines journal looks log workers h k.at k.line x.session phase there.0 there.1 k.is logs.0 (first_is n there.0 there.1 there.2)
+      early_line law state spells run lines journal looks log workers h k.at k.line x.session phase there.0 there.1 (own x.session) k.is logs.0 (first_is n there.0 there.1 there.2)
       (subst (λ r. HasRank x.session r there.1) (sym logs.1) there.3) (omega (arith, within, size)) in
       record {
         at = k.at;
@@ -130,20 +144,17 @@ module _ (law : Law) (state : List Entry → SpaceMap → Type 0) (spells : List
       record { at = k.at; turn = t.0; is = t.1; logs = subst (λ (l : NamedLine). LogsThis l.asks x) (sym t.2) k.logs }
 
   -- what stands in the log stands in theirs, where it isn't trimmed
-  stood : (c : Content) (from : ℕ) (r : StandsThere h.course.journal c) → o.chain.trim ≤ r.at → from ≤ r.at → SaysFrom o.chain yard.cells from c
+  stood : (c : Content) (from : ℕ) (r : StandsThere h.run.seen c) → o.chain.trim ≤ r.at → from ≤ r.at → SaysFrom o.chain yard.cells from c
   stood c from r high up =
       stood_from law journal back.legal run.low o.chain yard.cells back.chain_is back.shows back.tail c from
-      (record { at = r.at; entry = r.entry; held = subst (λ j. Holds j r.at r.entry) h.journal_is r.held; says = r.says }) high up
+      (record { at = r.at; entry = r.entry; held = subst (λ j. Holds j r.at r.entry) h.seen_is r.held; says = r.says }) high up
 
-  legal_then : IsLegal (record law { may = Within law.may h.counts }) h.course.journal
-  legal_then = h.ok.legal
-
-  -- a report stands no lower than what it reports
-  told_high : (node n : ℕ) (r : StandsThere h.course.journal (content.Alive node n)) → n ≤ r.at
-  told_high node n r =
-      let q = says_one (unpack 0 r.entry) (content.Alive node n) r.says in
-      let sent = held_appended (record law { may = Within law.may h.counts }) h.course.journal r.at r.entry legal_then r.held in
-      said_high (record law { may = Within law.may h.counts }) h.course.journal legal_then n (content.Alive node n) (subst (ToldSo lines looks h.course.journal) q.2 (h.ok.told r.entry q.0 sent q.1)).0 r
+  -- tails rise as phases begin
+  rise : (phase : ℕ) → tails h.run phase ≤ tails h.run (phase + 1)
+  rise phase =
+      let later = run_seen law lines h.home (length workers) h.run looks h.courses h.joined 1 (omega arith) some (phase + 1) in
+      (grown_on law (moment h.run phase) (moment h.run (phase + 1)) (run_rises law lines h.home (length workers) h.run looks h.courses h.joined some phase)
+      (grown_legal law (moment h.run (phase + 1)) h.run.seen later legal_then)).tail
 
   -- each report that a row tells stands in the log
   reported : (i : ℕ) (t : Played) (clean : ℕ) → slice_get played i ≡ Some t → t.row.outcome ≡ out.Alive clean → o.chain.trim ≤ clean → SaysFrom o.chain yard.cells clean (content.Alive t.line.node clean)
@@ -151,9 +162,9 @@ module _ (law : Law) (state : List Entry → SpaceMap → Type 0) (spells : List
       let k = turn_is lines o.rows looks i t at in
       let row = are.each i k.line k.look k.row k.line_at k.look_at k.row_at in
       let alive = alive_is (desk_for workers k.line.node k.line.asks) k.look k.line.asks k.row.outcome clean row.tells (sym (ap (λ (y : Played). y.row.outcome) k.is) ∙ is) in
-      let r = report_played law state spells run lines journal looks log workers h i k.line k.line_at Alive alive.0 clean (k.look_at ∙ ap Some alive.1) in
-      let high = told_high k.line.node clean r.stands in
-      subst (λ n. SaysFrom o.chain yard.cells clean (content.Alive n clean)) (sym (ap (λ (y : Played). y.line.node) k.is)) (stood (content.Alive k.line.node clean) clean r.stands (omega (arith, low, high)) high)
+      let r = report_behind law lines h.home (length workers) h.run looks h.courses h.lines_are h.joined run k.line.node i k.line clean (record { is = k.line_at; own = refl; looked = k.look_at ∙ ap Some alive.1 }) in
+      let high = r.1 in
+      subst (λ n. SaysFrom o.chain yard.cells clean (content.Alive n clean)) (sym (ap (λ (y : Played). y.line.node) k.is)) (stood (content.Alive k.line.node clean) clean r.0 (omega (arith, low, high)) high)
 
   -- and so does each leave
   left : (i : ℕ) (t : Played) → slice_get played i ≡ Some t → t.row.outcome ≡ out.Retired → o.chain.trim ≡ 0 → SaysFrom o.chain yard.cells 0 (content.Leave t.line.node)
@@ -170,8 +181,8 @@ module _ (law : Law) (state : List Entry → SpaceMap → Type 0) (spells : List
       let k = turn_is lines o.rows looks j t at in
       let row = are.each j k.line k.look k.row k.line_at k.look_at k.row_at in
       let so = trimmed_is (desk_for workers k.line.node k.line.asks) k.look k.line.asks k.row.outcome trim row.tells (sym (ap (λ (y : Played). y.row.outcome) k.is) ∙ is) in
-      let r = h.ok.trims j k.line trim k.line_at (k.look_at ∙ ap Some so.1) in
-      record { position = r.position; above = omega arith; says = stood (content.Trim r.position) 0 r.stands (omega (arith, none)) (omega arith) }
+      let r = (trim_stands law lines h.home (length workers) h.run looks h.courses h.lines_are h.joined k.line.node j k.line trim (record { is = k.line_at; own = refl; looked = k.look_at ∙ ap Some so.1 })).1 in
+      record { position = r.0; above = omega arith; says = stood (content.Trim r.0) 0 r.1 (omega (arith, none)) (omega arith) }
 
   below : length log ≤ tail_of (state_of journal)
   below = front_below law run.low journal log back.legal h.front
@@ -179,32 +190,30 @@ module _ (law : Law) (state : List Entry → SpaceMap → Type 0) (spells : List
   -- what lines did to the chain, by the register at the end
   replaced : Replacements played o.version o.chain (length yard.cells)
   replaced =
-      replacements lines workers looks o.rows are (state_of journal).register o.version o.chain (length law.shelf) (length yard.cells) (sym told.given ∙ sym registered.version) (sym back.chain_is)
+      replacements law lines h.home h.run h.courses workers looks o.rows h.lines_are h.joined are size h.beside o.version o.chain (length yard.cells)
+      (ap (λ es. (state_of es).register.version) h.seen_is ∙ sym told.given ∙ sym registered.version) (ap (λ es. (state_of es).register.chain) h.seen_is ∙ sym back.chain_is)
       (sym (ap length back.shelf_is) ∙ length-map yard.cells (λ v. v.servers))
-      (subst (λ j. Replaced lines looks (state_of j).register (length law.shelf)) h.journal_is h.ok.replaced)
 
-  module _ (stands : length log ≤ tail_of (state_of journal) → trim_of (state_of journal) ≤ length log → is_clean (λ s. 1) (asked_in 0 (take (trim_of (state_of journal)) log)) ≡ true → LogStands log (state_of journal).register.chain yard.cells) (lines_ended : AllAfter (LineEnded log h.course.tails h.course.faults (end_of lines workers h.home h.course.when)) [] played) (sessions_ended : (s : ℕ) → SessionEnded played h.course.faults h.home s (end_of lines workers h.home h.course.when s)) (came : FaultsCame played h.course.faults yard)
-      (let_go : (k : ℕ) → 1 ≤ k → k ≤ length workers → (trim_of (state_of h.course.journal) ≡ 0) ⊎ (AskedFor lines looks k Retire (λ look. Unit {0}) ⊎ AskedFor lines looks k Alive (TellsAtLeast (trim_of (state_of h.course.journal)))))
-      (kept : (trim_of (state_of h.course.journal) ≡ 0) ⊎ ((k : ℕ) × (1 ≤ k) × (k ≤ length workers) × (trim_of (state_of h.course.journal) ≤ cursor_of workers k))) where
+  module _ (stands : length log ≤ tail_of (state_of journal) → trim_of (state_of journal) ≤ length log → is_clean (λ s. 1) (asked_in 0 (take (trim_of (state_of journal)) log)) ≡ true → LogStands log (state_of journal).register.chain yard.cells) (lines_ended : AllAfter (LineEnded log (tails h.run) h.run.faults (end_of lines workers h.home h.run.when)) [] played) (sessions_ended : (s : ℕ) → SessionEnded played h.run.faults h.home s (end_of lines workers h.home h.run.when s)) (came : FaultsCame played h.run.faults yard)
+      (let_go : (k : ℕ) → 1 ≤ k → k ≤ length workers → (trim_of (state_of h.run.seen) ≡ 0) ⊎ (AskedFor lines looks k Retire (λ look. Unit {0}) ⊎ AskedFor lines looks k Alive (TellsAtLeast (trim_of (state_of h.run.seen)))))
+      (kept : (trim_of (state_of h.run.seen) ≡ 0) ⊎ ((k : ℕ) × (1 ≤ k) × (k ≤ length workers) × (trim_of (state_of h.run.seen) ≤ cursor_of workers k))) where
     -- what a line tells that comes behind a report of its node
     behind : (i j : ℕ) (l m : NamedLine) (clean : ℕ) → slice_get lines i ≡ Some l → slice_get lines j ≡ Some m → i < j → l.node ≡ m.node → slice_get looks i ≡ Some (Some (looked.Reported clean))
-        → (look : Option Looked) → slice_get looks j ≡ Some look → (d : Option Desk) → (b : List Played) (u : Played) (a : Asks) (x : Outcome) → m.asks ≡ a → Tells d look a x → CameOf log h.course.tails h.course.faults (end_of lines workers h.home h.course.when) b u a x → StandsFrom clean x
+        → (look : Option Looked) → slice_get looks j ≡ Some look → (d : Option Desk) → (b : List Played) (u : Played) (a : Asks) (x : Outcome) → m.asks ≡ a → Tells d look a x → CameOf log (tails h.run) h.run.faults (end_of lines workers h.home h.run.when) b u a x → StandsFrom clean x
     behind i j l m clean at there low same told look came d b u (asks.Logged s r command) (out.Placed place reply late) is t k =
-        let w = h.ok.reports.each i l clean at told in
-        let above : sent_of w.counts s.id < r = subst (IsUnsent w.counts) is (w.unsent j m low there (sym same)) in
-        let y = appeared_by log s.id r (omega (arith, above)) k.act k.found in
-        let early = legal_wider law (Within law.may w.counts) law.may (λ who e q. q.0) w.early w.legal in
-        let reach = front_below law run.low w.early w.clean.log early w.clean.front in
-        let within = w.clean.within in
-        let whole = w.seen in
-        let held : Holds (w.early ++ w.more) y.0 y.1 = subst (λ q. Holds q y.0 y.1) whole (subst (λ q. Holds q y.0 y.1) (sym h.journal_is) (h.front y.0 y.1 y.2)) in
-        let legal : IsLegal law (w.early ++ w.more) = subst (IsLegal law) whole (legal_wider law (Within law.may h.counts) law.may (λ who e q. q.0) h.course.journal h.ok.legal) in
-        let high = tail_bounds law run.low w.counts w.early w.more s.id r y.0 y.1 w.legal legal held y.3 above in
+        let logs : logs_for s.id m ≡ true = ap (is_of s.id) is ∙ eq-eqb s.id s.id refl in
+        let rank : rank_in m.asks ≡ r = ap rank_in is in
+        let node = node_is_home lines h.home (length workers) h.lines_are j s.id m there logs in
+        let counts = rank_counts lines h.home (length workers) h.lines_are (h.home s.id) j s.id m there node logs in
+        let y = appeared_by log s.id r (omega (arith, counts, rank)) k.act k.found in
+        let held : Holds h.run.seen y.0 y.1 = subst (λ q. Holds q y.0 y.1) (sym h.seen_is) (h.front y.0 y.1 y.2) in
+        let high = rank_high law run.low lines h.home (length workers) h.run looks h.courses h.lines_are h.joined l.node i j s.id r y.0 l m clean y.1 (subst (λ who. IsHome law.may s.id who) (sym (same ∙ node)) (own s.id))
+        (record { is = at; own = refl; looked = told }) low there (sym same) logs rank held y.3 in
         let up = y.4 in
-        subst (λ (p : Place). clean ≤ p.pos) (sym k.place_is) (omega (arith, reach, within, high, up))
+        subst (λ (p : Place). clean ≤ p.pos) (sym k.place_is) (omega (arith, high, up))
     behind i j l m clean at there low same told look came d b u (asks.Logged s r command) (out.Open cause) is t k = tt
     behind i j l m clean at there low same told look came d b u (asks.Logged s r command) x is t k = absurd k
-    behind i j l m clean at there low same told look came (Some d) b u (asks.Look s query) (out.Read after found) is t k = h.ok.reports.reads i j l m clean after found at there low same told (came ∙ ap Some t)
+    behind i j l m clean at there low same told look came (Some d) b u (asks.Look s query) (out.Read after found) is t k = read_high law lines h.home (length workers) h.run looks h.courses h.lines_are h.joined l.node i j l m clean after found (record { is = at; own = refl; looked = told }) (record { is = there; own = sym same; looked = came ∙ ap Some t }) low
     behind i j l m clean at there low same told look came None b u (asks.Look s query) (out.Read after found) is t k = absurd t
     behind i j l m clean at there low same told look came d b u (asks.Look s query) (out.Open cause) is t k = tt
     behind i j l m clean at there low same told look came d b u (asks.Look s query) x is t k = absurd k
@@ -231,7 +240,7 @@ module _ (law : Law) (state : List Entry → SpaceMap → Type 0) (spells : List
         let alive = alive_is (desk_for workers k.line.node k.line.asks) k.look k.line.asks k.row.outcome clean row.tells (sym (ap (λ (y : Played). y.row.outcome) k.is) ∙ is) in
         let m = turn_is lines o.rows looks j u there in
         let other = are.each j m.line m.look m.row m.line_at m.look_at m.row_at in
-        let ended = after_at (LineEnded log h.course.tails h.course.faults (end_of lines workers h.home h.course.when)) [] played j u lines_ended there in
+        let ended = after_at (LineEnded log (tails h.run) h.run.faults (end_of lines workers h.home h.run.when)) [] played j u lines_ended there in
         let line_is : u.line ≡ m.line = ap (λ (y : Played). y.line) m.is in
         let outcome_is : u.row.outcome ≡ m.row.outcome = ap (λ (y : Played). y.row.outcome) m.is in
         let tells : Tells (desk_for workers m.line.node m.line.asks) m.look u.line.asks u.row.outcome =
@@ -242,10 +251,10 @@ module _ (law : Law) (state : List Entry → SpaceMap → Type 0) (spells : List
     -- some node has played the log as far as it is trimmed
     short : o.chain.trim ≤ length log
     short =
-        let same : o.chain.trim ≡ trim_of (state_of h.course.journal) = ap (λ (k : Chain). k.trim) back.chain_is ∙ ap (λ (es : List Event). trim_of (state_of es)) (sym h.journal_is) in
+        let same : o.chain.trim ≡ trim_of (state_of h.run.seen) = ap (λ (k : Chain). k.trim) back.chain_is ∙ ap (λ (es : List Event). trim_of (state_of es)) (sym h.seen_is) in
         ⊎_elim
-        (λ (none : trim_of (state_of h.course.journal) ≡ 0). omega (arith, same, none))
-        (λ (k : (k : ℕ) × (1 ≤ k) × (k ≤ length workers) × (trim_of (state_of h.course.journal) ≤ cursor_of workers k)).
+        (λ (none : trim_of (state_of h.run.seen) ≡ 0). omega (arith, same, none))
+        (λ (k : (k : ℕ) × (1 ≤ k) × (k ≤ length workers) × (trim_of (state_of h.run.seen) ≤ cursor_of workers k)).
         let low = k.1 in
         let high = k.2 in
         let up = k.3 in
@@ -258,17 +267,17 @@ module _ (law : Law) (state : List Entry → SpaceMap → Type 0) (spells : List
     pub run_ended : RunEnded played o yard
     run_ended = record {
       log = log;
-      tails = h.course.tails;
-      faults = h.course.faults;
-      ends = end_of lines workers h.home h.course.when;
+      tails = tails h.run;
+      faults = h.run.faults;
+      ends = end_of lines workers h.home h.run.when;
       home = h.home;
       few = let few = h.lines_are.few in let size = length-map played (λ (t : Played). t.line) in let same = ap length played_lines in omega (arith, few, size, same);
-      rows = sym (rows_are lines o.rows looks are.size h.ok.size);
+      rows = sym (rows_are lines o.rows looks are.size size);
       end = end_is;
       ranked = ap (are_ranked []) played_lines ∙ h.lines_are.ranked;
       phases = ap (are_in_phase 0) played_lines ∙ h.lines_are.phases;
       at_home = all_lines (λ l. IsAtHome h.home l.node l.asks) played (subst (AllByRecursion (λ (l : NamedLine). IsAtHome h.home l.node l.asks)) (sym played_lines) h.lines_are.at_home);
-      rise = h.ok.rise;
+      rise = rise;
       stands = subst (λ k. LogStands log k yard.cells) (sym back.chain_is)
           (let same = ap (λ (k : Chain). k.trim) back.chain_is in
           let low = short in

@@ -38,32 +38,34 @@ use Rattle.row_text.specs.declared.row.Outcome.TheVariants as out
 use Rattle.fitting_run.specs.Answered.{session_asking}
 use Rattle.fitting_run.specs.Lines.{is_of, logs_for}
 use Rattle.fitting_run.specs.Outcomes.{answers, is_row_of}
-use Rattle.turn_scopes.proofs.Widening.{legal_wider}
 use Rattle.log_laws.specs.Told.{IsTold}
 use Rattle.node_lines.specs.declared.desk.Desk.{Desk}
 use Rattle.node_lines.specs.Answered.{ActedSo, AreAllAnswers}
 use Rattle.node_lines.specs.UnderWay.{HasRank}
-use Rattle.node_lines.proofs.Catching.{acted_sent}
 use Rattle.node_lines.specs.declared.lines.Looked.{Looked}
 use Rattle.node_lines.specs.declared.lines.Looked.TheVariants as looked
-use Rattle.node_lines.specs.Workers.{MayRun, Within, sent_of}
-use Rattle.node_lines.proofs.Bounding.{tail_bounds}
+use Rattle.node_lines.specs.Workers.{IsHome, MayRun}
 use Rattle.run_laws.specs.Ended.{AllAfter, CameOf, CameTo, HasLooked, HasReported, IsLeft, IsAtHome, IsPlaced, IsStoppedBy, IsUnread, LineEnded, Played, SessionEnd, act_of_rank, rank_in, session_in}
 use Rattle.run_laws.proofs.Fronts.{front-acts}
 use Rattle.run_laws.proofs.Members.{all-at, found-among}
 use Rattle.run_laws.proofs.Placing.{is_rank}
-use Rattle.run_course.specs.Script.{asked_before, asked_by, failure_of_look, logs_at}
-use Rattle.run_course.specs.Reporting.{IsReport, ReportedSo}
-use Rattle.run_course.specs.Leaving.{IsLeave, LeftSo}
-use Rattle.run_course.specs.Desks.{HasActed, IsOfNode, IsUpTo, LoggedSo, LogsBefore, LookedSo, PlayedSo, SawSo, WasFree, WasStopped}
-use Rattle.run_course.proofs.Fronts.{front_low}
-use Rattle.run_course.proofs.Lines.{asked_home, at_get, count-cons, phase_before}
-use Rattle.run_course.proofs.Ranks.{node_is_home, rank_counts, rank_low}
+use Rattle.node_course.specs.Script.{asked_before, asked_by, failure_of_look, logs_at}
+use Rattle.node_course.specs.Moments.{tails}
+use Rattle.node_course.specs.Reporting.{IsReport, ReportedSo}
+use Rattle.node_course.specs.Leaving.{IsLeave, LeftSo}
+use Rattle.node_course.specs.Desks.{HasActed, IsOfNode, IsUpTo, LoggedSo, LogsBefore, LookedSo, PlayedSo, SawSo, WasFree, WasStopped}
+use Rattle.node_course.proofs.Behind.{report_low}
+use Rattle.node_course.proofs.Legal.{worker_within}
+use Rattle.node_course.proofs.Lines.{asked_home, at_get, count-cons, phase_before}
+use Rattle.node_course.proofs.Ranks.{node_is_home, rank_counts, rank_low}
+use Rattle.node_course.proofs.Sent.{acted_low}
+use Rattle.node_course.proofs.Stood.{stood_asked}
+use Rattle.node_course.proofs.Together.{played_run}
 use Rattle.run_ends.specs.Closing.{HasClosed, WorkerEnd}
 use Rattle.run_ends.specs.Rows.{AreRows, CanTell, CanTellLine, IsOfTable, IsRowOf, Tells, TellsIt, TellsPlace, desk_for, is_behind, played_of}
 use Rattle.run_ends.specs.Ends.{answered_of, desk_in, desks_at}
 use Rattle.run_ends.proofs.Turns.{all_after, any_map, count_map, lines_are, map_take, some_at, turn_is}
-use Rattle.run_ends.proofs.Sessions.{AtHome, HasDesk, at_home, ends_so, has_desk, stopped_first, the_end}
+use Rattle.run_ends.proofs.Sessions.{AtHome, HasDesk, at_home, ended_at, ends_so, has_desk, legal as run_is_legal, size as looks_size, stopped_first, the_end}
 use Rattle.run_ends.proofs.Placing.{acted_below, acted_on, acts_low, acts_not, appeared_by, fronts_agree}
 use Rattle.run_ends.proofs.Reports.{has_reported, leave_within, report_within}
 
@@ -141,18 +143,21 @@ module _ (law : Law) (state : List Entry → SpaceMap → Type 0) (spells : List
   first_stop : (s : ℕ) (n : Home s) (d : Seat s n) (k : Cause) → d.was.stopped ≡ Some k → (a : ℕ) × (d.was.answered ≡ Some a)
   first_stop s n d k stop = stopped_first law state spells lines journal looks log workers h s n d k stop
 
-  legal : IsLegal law h.course.journal
-  legal = legal_wider law (Within law.may h.counts) law.may (λ who e k. k.0) h.course.journal h.ok.legal
+  legal : IsLegal law h.run.seen
+  legal = run_is_legal law state spells lines journal looks log workers h
+
+  size : length looks ≡ length lines
+  size = looks_size law state spells lines journal looks log workers h
 
   -- the log as far as it was played is a front of what is held
-  front : IsFront Holds h.course.journal log
-  front = subst (λ j. IsFront Holds j log) (sym h.journal_is) h.front
+  front : IsFront Holds h.run.seen log
+  front = subst (λ j. IsFront Holds j log) (sym h.seen_is) h.front
 
   -- what a node has applied is how the log begins
-  begins_so : (s : ℕ) (n : Home s) (l : List Entry) → IsFront Holds h.course.journal l → length l ≤ n.worker.seat.node.replica.cursor → (length l ≤ length log) × (l ≡ take (length l) log)
+  begins_so : (s : ℕ) (n : Home s) (l : List Entry) → IsFront Holds h.run.seen l → length l ≤ n.worker.seat.node.replica.cursor → (length l ≤ length log) × (l ≡ take (length l) log)
   begins_so s n l was upto =
       let short : length l ≤ length log = let a = n.closed.short in omega (arith, a, upto) in
-      (short, fronts_agree law h.course.journal l log legal was front short)
+      (short, fronts_agree law h.run.seen l log legal was front short)
 
   -- no command of a phase or a later one was sent when that phase began
   sent_before : (i : ℕ) (l : NamedLine) (s phase : ℕ) → slice_get lines i ≡ Some l → logs_for s l ≡ true → phase ≤ l.phase → asked_before lines s phase < rank_in l.asks
@@ -175,16 +180,13 @@ module _ (law : Law) (state : List Entry → SpaceMap → Type 0) (spells : List
           )
 
   -- what stood in the log when a phase began is logged by a line of an earlier one
-  pub early_line : (i : ℕ) (l : NamedLine) (s phase pos : ℕ) (e : Entry) → slice_get lines i ≡ Some l → logs_for s l ≡ true → slice_get log pos ≡ Some e → HasRank s (rank_in l.asks) e → pos < h.course.tails phase → l.phase < phase
-  early_line i l s phase pos e at logs there has low = ⊎_elim (λ (early : l.phase < phase). early)
+  pub early_line : (i : ℕ) (l : NamedLine) (s phase pos : ℕ) (e : Entry) → IsHome law.may s (h.home s) → slice_get lines i ≡ Some l → logs_for s l ≡ true → slice_get log pos ≡ Some e → HasRank s (rank_in l.asks) e → pos < tails h.run phase → l.phase < phase
+  early_line i l s phase pos e own at logs there has low = ⊎_elim (λ (early : l.phase < phase). early)
       (λ (late : phase ≤ l.phase).
-      let began = h.ok.began phase (let over = h.over i l at in omega (arith, over, late)) in
-      let sent = began.sent s in
       let before = sent_before i l s phase at logs late in
-      let above : sent_of began.counts s < rank_in l.asks = omega (arith, sent, before) in
-      let held = subst (λ j. Holds j pos e) began.seen (front pos e there) in
-      let high = tail_bounds law run.low began.counts began.early began.more s (rank_in l.asks) pos e began.legal (subst (IsLegal law) began.seen legal) held has above in
-      absurd (omega (arith, high, low, began.tail_is)))
+      let begun : phase ≤ h.run.phase = let over = h.over i l at in omega (arith, over, late) in
+      let asked = stood_asked law run.low lines h.home (length workers) h.run looks h.courses h.lines_are h.joined phase s (rank_in l.asks) pos e begun own (front pos e there) low has in
+      absurd (omega (arith, before, asked)))
       (cases_lt l.phase phase)
 
   -- A line that logs a command
@@ -193,7 +195,7 @@ module _ (law : Law) (state : List Entry → SpaceMap → Type 0) (spells : List
     within : i < length lines
     within = slice_get_within lines i l at
 
-    over : l.phase < h.course.phase
+    over : l.phase < h.run.phase
     over = h.over i l at
 
     node : l.node ≡ h.home s
@@ -228,22 +230,30 @@ module _ (law : Law) (state : List Entry → SpaceMap → Type 0) (spells : List
     sent_later : asked_before lines s l.phase < r
     sent_later = let k = sent_before i l s l.phase at logs (omega arith) in omega (arith, k, rank)
 
-    module _ (so : LoggedSo h.course h.course.phase n.worker.seat.node.replica.cursor d.was l.phase s r) where
+    module _ (so : LoggedSo h.run h.run.phase n.worker.seat.node.replica.cursor d.was l.phase s r) where
       -- it acted by the end of its phase, where it isn't above what was answered
-      acted_so : (o : Option ℕ) → d.was.answered ≡ o → r ≤ answered_of lines o → HasActed h.course n.worker.seat.node.replica.cursor l.phase s r
+      acted_so : (o : Option ℕ) → d.was.answered ≡ o → r ≤ answered_of lines o → HasActed h.run n.worker.seat.node.replica.cursor l.phase s r
       acted_so o is low = so.acted over (subst (λ x. IsUpTo x r) (sym is) (upto o low))
         where
           upto : (x : Option ℕ) → r ≤ answered_of lines x → IsUpTo x r
           upto None k = tt
           upto (Some a) k = k
 
-      acted_low : HasActed h.course n.worker.seat.node.replica.cursor l.phase s r → r < gap_from (asked_in 0 log) s 1
-      acted_low k =
+      acts_there : HasActed h.run n.worker.seat.node.replica.cursor l.phase s r → r < gap_from (asked_in 0 log) s 1
+      acts_there k =
           let b = begins_so s n k.log k.front k.within in
           acted_on log (length k.log) s r (subst (λ x. r < gap_from (asked_in 0 x) s 1) b.1 k.acted)
 
       -- its row tells where it was placed
-      module _ (told : (log : List Entry) → AllByRecursion (λ a. IsTold a.reply) (acts_in log)) (place : Place) (reply : Option Reply) (late : Bool) (t : TellsPlace d.now r place reply late) where
+      -- no more of its session acts than its desk sent
+      module _ (own : IsHome law.may s (h.home s)) where
+        acted_upto : gap_from (asked_in 0 log) s 1 ≤ d.was.sent + 1
+        acted_upto =
+            let seen = (h.joined.part (h.home s) (h.lines_are.there s) (h.lines_are.within s)).seen in
+            acted_low law (h.home s) n.closed.was (h.courses (h.home s)).seen
+            (worker_within law state spells (h.home s) (h.courses (h.home s)).seen n.worker.seat n.closed.was n.closed.rests.node.ok) s d.was d.was_there own log (subst (λ j. IsFront Holds j log) (sym seen) front)
+
+      module _ (own : IsHome law.may s (h.home s)) (told : (log : List Entry) → AllByRecursion (λ a. IsTold a.reply) (acts_in log)) (place : Place) (reply : Option Reply) (late : Bool) (t : TellsPlace d.now r place reply late) where
         so_kept : ActedSo log s (t.index + 1) t.kept
         so_kept = all.each t.index t.kept t.at
 
@@ -254,25 +264,26 @@ module _ (law : Law) (state : List Entry → SpaceMap → Type 0) (spells : List
         late_so None = let no : nat_lt (length lines) r ≡ false = grind (arith, nat_tests, few) in sym no
         late_so (Some a) = refl
 
-        placed_from : h.course.tails l.phase ≤ so_kept.act.place.pos
+        placed_from : tails h.run l.phase ≤ so_kept.act.place.pos
         placed_from =
-            let began = h.ok.began l.phase (let low = over in omega (arith, low)) in
             let x = appeared_by log s r least so_kept.act found in
-            let sent = began.sent s in
-            let above : sent_of began.counts s < r = omega (arith, sent, sent_later) in
-            let held = subst (λ j. Holds j x.0 x.1) began.seen (front x.0 x.1 x.2) in
-            let low = tail_bounds law run.low began.counts began.early began.more s r x.0 x.1 began.legal (subst (IsLegal law) began.seen legal) held x.3 above in
             let up = x.4 in
-            omega (arith, low, up, began.tail_is)
+            ⊎_elim
+            (λ (below : x.0 < tails h.run l.phase).
+            let begun : l.phase ≤ h.run.phase = let low = over in omega (arith, low) in
+            let asked = stood_asked law run.low lines h.home (length workers) h.run looks h.courses h.lines_are h.joined l.phase s r x.0 x.1 begun own (front x.0 x.1 x.2) below x.3 in
+            absurd (omega (arith, asked, sent_later)))
+            (λ (high : tails h.run l.phase ≤ x.0). omega (arith, high, up))
+            (cases_lt x.0 (tails h.run l.phase))
 
-        placed_upto : r ≤ answered_of lines d.was.answered → so_kept.act.place.pos < h.course.tails (l.phase + 1)
+        placed_upto : r ≤ answered_of lines d.was.answered → so_kept.act.place.pos < tails h.run (l.phase + 1)
         placed_upto low =
             let k = acted_so d.was.answered refl low in
             let b = begins_so s n k.log k.front k.within in
             let below = acted_below log s r least so_kept.act found (length k.log) b.0 (subst (λ x. r < gap_from (asked_in 0 x) s 1) b.1 k.acted) in
             omega (arith, below, k.upto)
 
-        placed : IsPlaced log h.course.tails (end_so s d.was) l.phase s r place reply late
+        placed : IsPlaced log (tails h.run) (end_so s d.was) l.phase s r place reply late
         placed = record {
           act = so_kept.act;
           found = found;
@@ -284,14 +295,12 @@ module _ (law : Law) (state : List Entry → SpaceMap → Type 0) (spells : List
         }
 
         -- nothing of a later phase acts than that in which its session was stopped
-        not_stopped : (k : Cause) → d.was.stopped ≡ Some k → h.course.when s < l.phase → ⊥
+        not_stopped : (k : Cause) → d.was.stopped ≡ Some k → h.run.when s < l.phase → ⊥
         not_stopped k stop earlier =
             let first = first_stop s n d k stop in
             let unsent = so.unsent first.0 first.1 earlier in
-            let sent = d.stands.sent refl in
             let low = acts_low log s r least so_kept.act found in
-            let most = acted_sent (record law { may = Within law.may h.counts }) h.course.journal log s (sent_of h.counts s) h.ok.legal front (λ who e q allowed has. allowed.1 s q has) in
-            omega (arith, unsent, sent, low, most)
+            let most = acted_upto own in omega (arith, unsent, low, most)
 
       -- its row tells that it is open
       left : (cause : Cause) → length d.now.answers.items < r → d.now.stopped ≡ Some cause → IsLeft log (end_so s d.was) s r cause
@@ -302,7 +311,7 @@ module _ (law : Law) (state : List Entry → SpaceMap → Type 0) (spells : List
             none = acts_not log s r least (omega (arith, gap, high));
             stopped = was;
             above = ⊎_elim (λ (above : answered_of lines d.was.answered < r). above)
-                (λ (low : r ≤ answered_of lines d.was.answered). absurd (let acted = acted_low (acted_so d.was.answered refl low) in omega (arith, acted, gap, high)))
+                (λ (low : r ≤ answered_of lines d.was.answered). absurd (let acted = acts_there (acted_so d.was.answered refl low) in omega (arith, acted, gap, high)))
                 (cases_lt (answered_of lines d.was.answered) r);
           }
 
@@ -311,34 +320,34 @@ module _ (law : Law) (state : List Entry → SpaceMap → Type 0) (spells : List
       has_outcome = by d.was.answered refl
         where
           by : (o : Option ℕ) → d.was.answered ≡ o → (r ≤ length d.now.answers.items) ⊎ IsSome d.now.stopped
-          by None is = inl (let acted = acted_low (so.acted over (subst (λ o. IsUpTo o r) (sym is) tt)) in let gap = all.all in omega (arith, acted, gap))
+          by None is = inl (let acted = acts_there (so.acted over (subst (λ o. IsUpTo o r) (sym is) tt)) in let gap = all.all in omega (arith, acted, gap))
           by (Some a) is = inr (subst IsSome (sym (stopped_is ∙ (d.stands.ended a is).is)) refl)
 
-      missed : answered_of lines d.was.answered < r → IsSome d.was.stopped × (h.course.when s ≤ l.phase)
+      missed : answered_of lines d.was.answered < r → IsSome d.was.stopped × (h.run.when s ≤ l.phase)
       missed above = by d.was.answered refl above
         where
-          by : (o : Option ℕ) → d.was.answered ≡ o → answered_of lines o < r → IsSome d.was.stopped × (h.course.when s ≤ l.phase)
+          by : (o : Option ℕ) → d.was.answered ≡ o → answered_of lines o < r → IsSome d.was.stopped × (h.run.when s ≤ l.phase)
           by None is high = absurd (omega (arith, high, few))
           by (Some a) is high =
               let ended = d.stands.ended a is in (
                 subst IsSome (sym ended.is) refl,
-                ⊎_elim (λ (early : l.phase < h.course.when s). absurd (let low = ended.earlier i l at logs early in omega (arith, low, rank, high)))
-                    (λ (late : h.course.when s ≤ l.phase). late)
-                    (cases_lt l.phase (h.course.when s)),
+                ⊎_elim (λ (early : l.phase < h.run.when s). absurd (let low = ended.earlier i l at logs early in omega (arith, low, rank, high)))
+                    (λ (late : h.run.when s ≤ l.phase). late)
+                    (cases_lt l.phase (h.run.when s)),
               )
 
   -- A line that was played
 
   -- what the node of a line was asked itself came to
   abbrev CameOfNode : ℕ → NamedLine → Admin → Type 0
-  CameOfNode i l a = (look : Looked) × (slice_get looks i ≡ Some (Some look)) × IsOfNode a look × ReportedSo h.course.journal (h.course.tails l.phase) (length log) l.node look × LeftSo h.course.journal (length log) l.node look
+  CameOfNode i l a = (look : Looked) × (slice_get looks i ≡ Some (Some look)) × IsOfNode a look × ReportedSo h.run.seen (tails h.run l.phase) (length log) l.node look × LeftSo h.run.seen (length log) l.node look
 
   own_home : (node : ℕ) (a : Asks) → IsAtHome h.home node a → IsSome (session_asking a) → node ≡ h.home (session_in a)
   own_home node (asks.Logged s r command) at some = at
   own_home node (asks.Look s query) at some = at
   own_home node (asks.Admin a) at some = absurd (cc)
 
-  of_table : (s : ℕ) (n : Home s) (d : Seat s n) (i phase : ℕ) (query : Query) (look : Looked) → LookedSo lines h.course n.worker.seat.node.replica.cursor (h.home s) d.was i phase s query look → IsOfTable look
+  of_table : (s : ℕ) (n : Home s) (d : Seat s n) (i phase : ℕ) (query : Query) (look : Looked) → LookedSo lines h.run n.worker.seat.node.replica.cursor (h.home s) d.was i phase s query look → IsOfTable look
   of_table s n d i phase query (looked.Found after answer) so = tt
   of_table s n d i phase query (looked.Kept cause) so = tt
   of_table s n d i phase query (looked.Failed cause) so = tt
@@ -367,10 +376,11 @@ module _ (law : Law) (state : List Entry → SpaceMap → Type 0) (spells : List
         desk_there : desk_in (desks_at workers l.node) (session_in a) ≡ Some seat_of.now
         desk_there = ap (λ n. desk_in (desks_at workers n) (session_in a)) node_is ∙ ap (λ w. desk_in w (session_in a)) home_of.at ∙ seat_of.now_there
 
-        played_so : PlayedSo lines h.course h.course.phase home_of.worker.seat.node.replica.cursor (h.home (session_in a)) home_of.closed.was looks i l.phase a
+        played_so : PlayedSo lines h.run h.run.phase home_of.worker.seat.node.replica.cursor (h.home (session_in a)) home_of.closed.was looks i l.phase a
         played_so =
-            subst (PlayedSo lines h.course h.course.phase home_of.worker.seat.node.replica.cursor (h.home (session_in a)) home_of.closed.was looks i l.phase) is
-            (home_of.closed.rests.worker.played i l (slice_get_within lines i l line_at) line_at node_is)
+            subst (PlayedSo lines h.run h.run.phase home_of.worker.seat.node.replica.cursor (h.home (session_in a)) home_of.closed.was looks i l.phase) is
+            (played_run law state spells lines h.home (length workers) h.run looks h.courses h.joined (h.home (session_in a)) (length lines) (length lines) h.run.phase home_of.worker.seat home_of.closed.was (h.lines_are.there (session_in a)) (h.lines_are.within (session_in a))
+            (ended_at law state spells lines journal looks log workers h (h.home (session_in a)) home_of.worker home_of.closed (h.lines_are.there (session_in a)) (h.lines_are.within (session_in a))) i l (slice_get_within lines i l line_at) line_at node_is)
 
     desk_is : (a : Asks) (is : l.asks ≡ a) → IsSome (session_asking a) → desk_for workers l.node a ≡ Some (seat_of a is).now
     desk_is (asks.Logged s r command) is some = desk_there (asks.Logged s r command) is some
@@ -386,30 +396,33 @@ module _ (law : Law) (state : List Entry → SpaceMap → Type 0) (spells : List
         let w = some_at workers (l.node - 1) (omega (arith, low, high)) in
         let same : l.node ≡ l.node - 1 + 1 = omega (arith, low) in
         let k = h.each (l.node - 1) w.0 w.1 in
+        let least : 1 ≤ l.node - 1 + 1 = omega (arith, low) in
+        let most : l.node - 1 + 1 ≤ length workers = omega (arith, low, high) in
         let so =
-        subst (PlayedSo lines h.course h.course.phase w.0.seat.node.replica.cursor (l.node - 1 + 1) k.was looks i l.phase) is
-        (k.rests.worker.played i l (slice_get_within lines i l line_at) line_at same) in (
+        subst (PlayedSo lines h.run h.run.phase w.0.seat.node.replica.cursor (l.node - 1 + 1) k.was looks i l.phase) is
+        (played_run law state spells lines h.home (length workers) h.run looks h.courses h.joined (l.node - 1 + 1) (length lines) (length lines) h.run.phase w.0.seat k.was least most
+        (ended_at law state spells lines journal looks log workers h (l.node - 1 + 1) w.0 k least most) i l (slice_get_within lines i l line_at) line_at same) in (
           so.0,
           so.1,
           so.2,
-          subst (λ n. ReportedSo h.course.journal (h.course.tails l.phase) (length log) n so.0) (sym same)
-              (report_within h.course.journal (h.course.tails l.phase) w.0.seat.node.replica.cursor (length log) (l.node - 1 + 1) so.0 k.short so.3),
-          subst (λ n. LeftSo h.course.journal (length log) n so.0) (sym same) (leave_within h.course.journal w.0.seat.node.replica.cursor (length log) (l.node - 1 + 1) so.0 k.short so.4),
+          subst (λ n. ReportedSo h.run.seen (tails h.run l.phase) (length log) n so.0) (sym same)
+              (report_within h.run.seen (tails h.run l.phase) w.0.seat.node.replica.cursor (length log) (l.node - 1 + 1) so.0 k.short so.3),
+          subst (λ n. LeftSo h.run.seen (length log) n so.0) (sym same) (leave_within h.run.seen w.0.seat.node.replica.cursor (length log) (l.node - 1 + 1) so.0 k.short so.4),
         )
 
     -- what it reported, if it did
-    pub report_played : (a : Admin) → l.asks ≡ asks.Admin a → (clean : ℕ) → slice_get looks i ≡ Some (Some (looked.Reported clean)) → IsReport h.course.journal (h.course.tails l.phase) (length log) l.node clean
+    pub report_played : (a : Admin) → l.asks ≡ asks.Admin a → (clean : ℕ) → slice_get looks i ≡ Some (Some (looked.Reported clean)) → IsReport h.run.seen (tails h.run l.phase) (length log) l.node clean
     report_played a is clean came =
         let so = node_played a is in
         let same : so.0 ≡ looked.Reported clean = same_some so.0 (looked.Reported clean) (same_some (Some so.0) (Some (looked.Reported clean)) (sym so.1 ∙ came)) in
-        subst (ReportedSo h.course.journal (h.course.tails l.phase) (length log) l.node) same so.3
+        subst (ReportedSo h.run.seen (tails h.run l.phase) (length log) l.node) same so.3
 
     -- and that it left, if it did
-    pub leave_played : (a : Admin) → l.asks ≡ asks.Admin a → slice_get looks i ≡ Some (Some looked.Left) → IsLeave h.course.journal (length log) l.node
+    pub leave_played : (a : Admin) → l.asks ≡ asks.Admin a → slice_get looks i ≡ Some (Some looked.Left) → IsLeave h.run.seen (length log) l.node
     leave_played a is came =
         let so = node_played a is in
         let same : so.0 ≡ looked.Left = same_some so.0 looked.Left (same_some (Some so.0) (Some looked.Left) (sym so.1 ∙ came)) in
-        subst (LeftSo h.course.journal (length log) l.node) same so.4
+        subst (LeftSo h.run.seen (length log) l.node) same so.4
 
     can_tell_so : (a : Asks) (is : l.asks ≡ a) (look : Option Looked) → slice_get looks i ≡ Some look → TellsIt (desk_for workers l.node a) look a
     can_tell_so (asks.Logged s r command) is look look_at =
@@ -432,22 +445,21 @@ module _ (law : Law) (state : List Entry → SpaceMap → Type 0) (spells : List
 
     can_tell_line : CanTellLine workers looks i l
     can_tell_line =
-        let size = h.ok.size in
         let within = slice_get_within lines i l line_at in
         let look = some_at looks i (omega (arith, size, within)) in
         record { look = look.0; look_at = look.1; tells = can_tell_so l.asks refl look.0 look.1 }
 
   pub can_tell : CanTell lines workers looks
-  can_tell = record { size = h.ok.size; each = can_tell_line }
+  can_tell = record { size = size; each = can_tell_line }
 
   -- A line that looks
 
-  module _ (told : (log : List Entry) → AllByRecursion (λ a. IsTold a.reply) (acts_in log)) (rows : List Row) (are : AreRows lines workers looks rows) where
+  module _ (own : (s : ℕ) → IsHome law.may s (h.home s)) (told : (log : List Entry) → AllByRecursion (λ a. IsTold a.reply) (acts_in log)) (rows : List Row) (are : AreRows lines workers looks rows) where
     abbrev played : List Played
     played = played_of lines rows looks
 
     played_lines : map (λ t. t.line) played ≡ lines
-    played_lines = lines_are lines rows looks are.size h.ok.size
+    played_lines = lines_are lines rows looks are.size size
 
     -- the first lines, with their rows
     first_lines : (i : ℕ) → map (λ t. t.line) (take i played) ≡ take i lines
@@ -470,7 +482,7 @@ module _ (law : Law) (state : List Entry → SpaceMap → Type 0) (spells : List
           omega (arith, same, most, size)
       answered_so (Some a) few = let same = count_first i s in let low = few a refl in omega (arith, same, low)
 
-      saw : (after : ℕ) (found : Found) → SawSo lines h.course n.worker.seat.node.replica.cursor d.was i l.phase s query after found → HasLooked log h.course.tails (end_so s d.was) (take i played) l.phase s query after found
+      saw : (after : ℕ) (found : Found) → SawSo lines h.run n.worker.seat.node.replica.cursor d.was i l.phase s query after found → HasLooked log (tails h.run) (end_so s d.was) (take i played) l.phase s query after found
       saw after found k =
           let b = begins_so s n k.log k.front (let a = k.within in let e = k.size in omega (arith, a, e)) in
           let front_is : k.log ≡ take after log = b.1 ∙ ap (λ m. take m log) k.size in
@@ -484,10 +496,10 @@ module _ (law : Law) (state : List Entry → SpaceMap → Type 0) (spells : List
             answered = answered_so d.was.answered (λ a is. k.answered a is);
           }
 
-      kept : (row : Row) (look : Option Looked) (cause : Cause) → WasStopped h.course d.was l.phase s cause ⊎ (LogsBefore lines i s l.phase × CameTo h.course.faults cause (h.home s) l.phase × WasFree h.course d.was l.phase s) → l.node ≡ h.home s
-          → IsUnread h.course.faults (end_so s d.was) (take i played) (record { line = l; row = row; paid = failure_of_look look }) s cause
+      kept : (row : Row) (look : Option Looked) (cause : Cause) → WasStopped h.run d.was l.phase s cause ⊎ (LogsBefore lines i s l.phase × CameTo h.run.faults cause (h.home s) l.phase × WasFree h.run d.was l.phase s) → l.node ≡ h.home s
+          → IsUnread h.run.faults (end_so s d.was) (take i played) (record { line = l; row = row; paid = failure_of_look look }) s cause
       kept row look cause (inl k) own = inr (inl (k.cause_is, k.earlier))
-      kept row look cause (inr k) own = inr (inr (any_first i s l.phase ∙ k.0, subst (λ m. CameTo h.course.faults cause m l.phase) (sym own) k.1))
+      kept row look cause (inr k) own = inr (inr (any_first i s l.phase ∙ k.0, subst (λ m. CameTo h.run.faults cause m l.phase) (sym own) k.1))
 
     -- A line with its row
 
@@ -514,12 +526,12 @@ module _ (law : Law) (state : List Entry → SpaceMap → Type 0) (spells : List
 
       -- of each kind of line
 
-      came : (a : Asks) (is : l.asks ≡ a) (o : Outcome) → PlayedSo lines h.course h.course.phase (n a is).worker.seat.node.replica.cursor (h.home (session_in a)) (n a is).closed.was looks i l.phase a → Tells (Some (d a is).now) look a o
-          → CameOf log h.course.tails h.course.faults ends (take i played) turn a o
+      came : (a : Asks) (is : l.asks ≡ a) (o : Outcome) → PlayedSo lines h.run h.run.phase (n a is).worker.seat.node.replica.cursor (h.home (session_in a)) (n a is).closed.was looks i l.phase a → Tells (Some (d a is).now) look a o
+          → CameOf log (tails h.run) h.run.faults ends (take i played) turn a o
       came (asks.Logged s r command) is (out.Placed place reply late) so t =
           let x = d (asks.Logged s r command) is in
-          subst (λ e. IsPlaced log h.course.tails e l.phase s.id r place reply late) (sym x.ends)
-          (placed i l s.id r (n (asks.Logged s r command) is) x line_at (ap (is_of s.id) is ∙ eq-eqb s.id s.id refl) (ap rank_in is) (so x.was x.was_there) told place reply late t)
+          subst (λ e. IsPlaced log (tails h.run) e l.phase s.id r place reply late) (sym x.ends)
+          (placed i l s.id r (n (asks.Logged s r command) is) x line_at (ap (is_of s.id) is ∙ eq-eqb s.id s.id refl) (ap rank_in is) (so x.was x.was_there) (own s.id) told place reply late t)
       came (asks.Logged s r command) is (out.Open cause) so t =
           let x = d (asks.Logged s r command) is in
           subst (λ e. IsLeft log e s.id r cause) (sym x.ends)
@@ -527,18 +539,18 @@ module _ (law : Law) (state : List Entry → SpaceMap → Type 0) (spells : List
       came (asks.Look s query) is (out.Read after found) so t =
           let x = d (asks.Look s query) is in
           let same : so.0 ≡ looked.Found after found = same_some so.0 (looked.Found after found) (same_some (Some so.0) (Some (looked.Found after found)) (sym so.1 ∙ look_at ∙ ap Some t)) in
-          subst (λ e. HasLooked log h.course.tails e (take i played) l.phase s.id query after found) (sym x.ends)
-          (saw i l s.id query (n (asks.Look s query) is) x after found (subst (LookedSo lines h.course (n (asks.Look s query) is).worker.seat.node.replica.cursor (h.home s.id) x.was i l.phase s.id query) same (so.2 x.was x.was_there)))
+          subst (λ e. HasLooked log (tails h.run) e (take i played) l.phase s.id query after found) (sym x.ends)
+          (saw i l s.id query (n (asks.Look s query) is) x after found (subst (LookedSo lines h.run (n (asks.Look s query) is).worker.seat.node.replica.cursor (h.home s.id) x.was i l.phase s.id query) same (so.2 x.was x.was_there)))
       came (asks.Look s query) is (out.Open cause) so (inl t) =
           let x = d (asks.Look s query) is in
           let same : so.0 ≡ looked.Kept cause = same_some so.0 (looked.Kept cause) (same_some (Some so.0) (Some (looked.Kept cause)) (sym so.1 ∙ look_at ∙ ap Some t)) in
-          subst (λ e. IsUnread h.course.faults e (take i played) turn s.id cause) (sym x.ends)
+          subst (λ e. IsUnread h.run.faults e (take i played) turn s.id cause) (sym x.ends)
           (kept i l s.id query (n (asks.Look s query) is) x row look cause
-          (subst (LookedSo lines h.course (n (asks.Look s query) is).worker.seat.node.replica.cursor (h.home s.id) x.was i l.phase s.id query) same (so.2 x.was x.was_there)) (node_is i l line_at (asks.Look s query) is refl))
+          (subst (LookedSo lines h.run (n (asks.Look s query) is).worker.seat.node.replica.cursor (h.home s.id) x.was i l.phase s.id query) same (so.2 x.was x.was_there)) (node_is i l line_at (asks.Look s query) is refl))
       came (asks.Look s query) is (out.Open cause) so (inr t) = inl (ap failure_of_look t)
       came a is o so t = absurd t
 
-      missed_so : (a : Asks) (is : l.asks ≡ a) → PlayedSo lines h.course h.course.phase (n a is).worker.seat.node.replica.cursor (h.home (session_in a)) (n a is).closed.was looks i l.phase a → IsStoppedBy (ends (session_in a)) l.phase a
+      missed_so : (a : Asks) (is : l.asks ≡ a) → PlayedSo lines h.run h.run.phase (n a is).worker.seat.node.replica.cursor (h.home (session_in a)) (n a is).closed.was looks i l.phase a → IsStoppedBy (ends (session_in a)) l.phase a
       missed_so (asks.Logged s r command) is so =
           let x = d (asks.Logged s r command) is in
           subst (λ e. IsStoppedBy e l.phase (asks.Logged s r command)) (sym x.ends)
@@ -547,43 +559,43 @@ module _ (law : Law) (state : List Entry → SpaceMap → Type 0) (spells : List
       missed_so (asks.Admin a) is so = tt
 
       -- what its look came to is known
-      looked_so : (s : Session) (query : Query) (is : l.asks ≡ asks.Look s query) → PlayedSo lines h.course h.course.phase (n (asks.Look s query) is).worker.seat.node.replica.cursor (h.home s.id) (n (asks.Look s query) is).closed.was looks i l.phase (asks.Look s query)
-          → (x : Looked) → look ≡ Some x → LookedSo lines h.course (n (asks.Look s query) is).worker.seat.node.replica.cursor (h.home s.id) (d (asks.Look s query) is).was i l.phase s.id query x
+      looked_so : (s : Session) (query : Query) (is : l.asks ≡ asks.Look s query) → PlayedSo lines h.run h.run.phase (n (asks.Look s query) is).worker.seat.node.replica.cursor (h.home s.id) (n (asks.Look s query) is).closed.was looks i l.phase (asks.Look s query)
+          → (x : Looked) → look ≡ Some x → LookedSo lines h.run (n (asks.Look s query) is).worker.seat.node.replica.cursor (h.home s.id) (d (asks.Look s query) is).was i l.phase s.id query x
       looked_so s query is so x t =
           let y = d (asks.Look s query) is in
           let same : so.0 ≡ x = same_some so.0 x (same_some (Some so.0) (Some x) (sym so.1 ∙ look_at ∙ ap Some t)) in
-          subst (LookedSo lines h.course (n (asks.Look s query) is).worker.seat.node.replica.cursor (h.home s.id) y.was i l.phase s.id query) same (so.2 y.was y.was_there)
+          subst (LookedSo lines h.run (n (asks.Look s query) is).worker.seat.node.replica.cursor (h.home s.id) y.was i l.phase s.id query) same (so.2 y.was y.was_there)
 
       -- a session that was stopped in an earlier phase wasn't free
-      not_free : (s : Session) (query : Query) (is : l.asks ≡ asks.Look s query) (k : Cause) → (d (asks.Look s query) is).was.stopped ≡ Some k → WasFree h.course (d (asks.Look s query) is).was l.phase s.id → h.course.when s.id < l.phase → ⊥
+      not_free : (s : Session) (query : Query) (is : l.asks ≡ asks.Look s query) (k : Cause) → (d (asks.Look s query) is).was.stopped ≡ Some k → WasFree h.run (d (asks.Look s query) is).was l.phase s.id → h.run.when s.id < l.phase → ⊥
       not_free s query is k stop free earlier =
           let first = first_stop s.id (n (asks.Look s query) is) (d (asks.Look s query) is) k stop in
           let late = free first.0 first.1 in
           omega (arith, late, earlier)
 
-      stopped_so : (a : Asks) (is : l.asks ≡ a) (o : Outcome) → PlayedSo lines h.course h.course.phase (n a is).worker.seat.node.replica.cursor (h.home (session_in a)) (n a is).closed.was looks i l.phase a → Tells (Some (d a is).now) look a o
-          → (k : Cause) → (d a is).was.stopped ≡ Some k → h.course.when (session_in a) < l.phase → o ≡ out.Open k
+      stopped_so : (a : Asks) (is : l.asks ≡ a) (o : Outcome) → PlayedSo lines h.run h.run.phase (n a is).worker.seat.node.replica.cursor (h.home (session_in a)) (n a is).closed.was looks i l.phase a → Tells (Some (d a is).now) look a o
+          → (k : Cause) → (d a is).was.stopped ≡ Some k → h.run.when (session_in a) < l.phase → o ≡ out.Open k
       stopped_so (asks.Logged s r command) is (out.Placed place reply late) so t k stop earlier =
           let x = d (asks.Logged s r command) is in
-          absurd (not_stopped i l s.id r (n (asks.Logged s r command) is) x line_at (ap (is_of s.id) is ∙ eq-eqb s.id s.id refl) (ap rank_in is) (so x.was x.was_there) told place reply late t k stop earlier)
+          absurd (not_stopped i l s.id r (n (asks.Logged s r command) is) x line_at (ap (is_of s.id) is ∙ eq-eqb s.id s.id refl) (ap rank_in is) (so x.was x.was_there) (own s.id) told place reply late t k stop earlier)
       stopped_so (asks.Logged s r command) is (out.Open cause) so t k stop earlier =
           let x = d (asks.Logged s r command) is in
           ap out.Open (same_some cause k (sym t.1 ∙ ap (λ (y : Desk). y.stopped) x.rest ∙ stop))
       stopped_so (asks.Look s query) is (out.Read after found) so t k stop earlier =
           let x = d (asks.Look s query) is in
-          let seen : SawSo lines h.course (n (asks.Look s query) is).worker.seat.node.replica.cursor x.was i l.phase s.id query after found = looked_so s query is so (looked.Found after found) t in
+          let seen : SawSo lines h.run (n (asks.Look s query) is).worker.seat.node.replica.cursor x.was i l.phase s.id query after found = looked_so s query is so (looked.Found after found) t in
           absurd (not_free s query is k stop seen.free earlier)
       stopped_so (asks.Look s query) is (out.Open cause) so (inl t) k stop earlier =
           let x = d (asks.Look s query) is in
           ⊎_elim
-          (λ (w : WasStopped h.course x.was l.phase s.id cause). ap out.Open (same_some cause k (sym w.cause_is ∙ stop)))
-          (λ (w : LogsBefore lines i s.id l.phase × CameTo h.course.faults cause (h.home s.id) l.phase × WasFree h.course x.was l.phase s.id). absurd (not_free s query is k stop w.2 earlier))
+          (λ (w : WasStopped h.run x.was l.phase s.id cause). ap out.Open (same_some cause k (sym w.cause_is ∙ stop)))
+          (λ (w : LogsBefore lines i s.id l.phase × CameTo h.run.faults cause (h.home s.id) l.phase × WasFree h.run x.was l.phase s.id). absurd (not_free s query is k stop w.2 earlier))
           (looked_so s query is so (looked.Kept cause) t)
       stopped_so (asks.Look s query) is (out.Open cause) so (inr t) k stop earlier = absurd (not_free s query is k stop (looked_so s query is so (looked.Failed cause) t) earlier)
       stopped_so a is o so t k stop earlier = absurd t
 
       -- a line of a session
-      ended_there : IsSome (session_asking l.asks) → LineEnded log h.course.tails h.course.faults ends (take i played) turn
+      ended_there : IsSome (session_asking l.asks) → LineEnded log (tails h.run) h.run.faults ends (take i played) turn
       ended_there some =
           let so = played_so i l line_at l.asks refl some in
           let told = tells l.asks refl some in
@@ -596,16 +608,12 @@ module _ (law : Law) (state : List Entry → SpaceMap → Type 0) (spells : List
 
       -- a line that asks its node itself
       module _ (admin : Admin) (is : l.asks ≡ asks.Admin admin) where
-        reported : (clean : ℕ) → look ≡ Some (looked.Reported clean) → HasReported log h.course.tails l.phase clean
+        reported : (clean : ℕ) → look ≡ Some (looked.Reported clean) → HasReported log (tails h.run) l.phase clean
         reported clean t =
-            has_reported law h.course.journal log h.course.tails l.phase l.node clean legal front (report_played i l line_at admin is clean (look_at ∙ ap Some t))
-            (let w = h.ok.reports.each i l clean line_at (look_at ∙ ap Some t) in
-            let reach = front_low law run.low w.early w.clean.log (legal_wider law (Within law.may w.counts) law.may (λ who e k. k.0) w.early w.legal) w.clean.front in
-            let within = w.clean.within in
-            let tail = w.tail in
-            omega (arith, reach, within, tail))
+            has_reported law h.run.seen log (tails h.run) l.phase l.node clean legal front (report_played i l line_at admin is clean (look_at ∙ ap Some t))
+            (report_low law run.low lines h.home (length workers) h.run looks h.courses h.lines_are h.joined l.node i l clean (record { is = line_at; own = refl; looked = look_at ∙ ap Some t }))
 
-        node_came : (a : Admin) (o : Outcome) → Tells None look (asks.Admin a) o → CameOf log h.course.tails h.course.faults ends (take i played) turn (asks.Admin a) o
+        node_came : (a : Admin) (o : Outcome) → Tells None look (asks.Admin a) o → CameOf log (tails h.run) h.run.faults ends (take i played) turn (asks.Admin a) o
         node_came Extend (out.Extended version start) t = tt
         node_came Extend (out.Moved version) t = tt
         node_came Extend out.NoSpare t = tt
@@ -618,10 +626,10 @@ module _ (law : Law) (state : List Entry → SpaceMap → Type 0) (spells : List
         node_came Trim (out.Open cause) t = ap failure_of_look t
         node_came a o t = absurd t
 
-        ended_at_node : LineEnded log h.course.tails h.course.faults ends (take i played) turn
+        ended_at_node : LineEnded log (tails h.run) h.run.faults ends (take i played) turn
         ended_at_node = record {
           row = row_is;
-          came = subst (λ a. CameOf log h.course.tails h.course.faults ends (take i played) turn a row.outcome) (sym is)
+          came = subst (λ a. CameOf log (tails h.run) h.run.faults ends (take i played) turn a row.outcome) (sym is)
               (node_came admin row.outcome (subst (λ a. Tells (desk_for workers l.node a) look a row.outcome) is row_so.tells));
           missed = subst (λ a. IsStoppedBy (ends (session_in a)) l.phase a) (sym is) tt;
           stopped = λ some. absurd (no_session (subst (λ a. IsSome (session_asking a)) is some));
@@ -630,18 +638,18 @@ module _ (law : Law) (state : List Entry → SpaceMap → Type 0) (spells : List
             no_session : IsSome (session_asking (asks.Admin admin)) → ⊥
             no_session some = cc
 
-      ended : LineEnded log h.course.tails h.course.faults ends (take i played) turn
+      ended : LineEnded log (tails h.run) h.run.faults ends (take i played) turn
       ended = by l.asks refl
         where
-          by : (a : Asks) → l.asks ≡ a → LineEnded log h.course.tails h.course.faults ends (take i played) turn
+          by : (a : Asks) → l.asks ≡ a → LineEnded log (tails h.run) h.run.faults ends (take i played) turn
           by (asks.Logged s r command) is = ended_there (subst (λ a. IsSome (session_asking a)) (sym is) refl)
           by (asks.Look s query) is = ended_there (subst (λ a. IsSome (session_asking a)) (sym is) refl)
           by (asks.Admin a) is = ended_at_node a is
 
-    pub lines_ended : AllAfter (LineEnded log h.course.tails h.course.faults ends) [] played
-    lines_ended = all_after (LineEnded log h.course.tails h.course.faults ends) [] played each
+    pub lines_ended : AllAfter (LineEnded log (tails h.run) h.run.faults ends) [] played
+    lines_ended = all_after (LineEnded log (tails h.run) h.run.faults ends) [] played each
       where
-        each : (i : ℕ) (t : Played) → slice_get played i ≡ Some t → LineEnded log h.course.tails h.course.faults ends (take i played) t
+        each : (i : ℕ) (t : Played) → slice_get played i ≡ Some t → LineEnded log (tails h.run) h.run.faults ends (take i played) t
         each i t at =
             let k = turn_is lines rows looks i t at in
-            subst (LineEnded log h.course.tails h.course.faults ends (take i played)) (sym k.is) (ended i k.line k.row k.look k.line_at k.row_at k.look_at)
+            subst (LineEnded log (tails h.run) h.run.faults ends (take i played)) (sym k.is) (ended i k.line k.row k.look k.line_at k.row_at k.look_at)

@@ -1,12 +1,8 @@
 -- A run whose nodes have closed stays closed as its chain is read.
-use Rattle.std.proofs.Common.{◌≡◌, refl, sym, ap, ◌∙◌, subst, ◌⊎◌, inl, inr, ⊎_elim, ℕ, ◌+◌, ◌≤◌, Bool, true, false, List, [], ◌∷◌, ◌++◌, Option, Some, None, length, count_by, arith}
-use Rattle.std.specs.Prelude.{◌==◌}
-use Rattle.std.proofs.lemmas.Bool.Decides.{nat_tests}
+use Rattle.std.proofs.Common.{◌≡◌, refl, sym, ap, ◌∙◌, subst, ◌⊎◌, inl, inr, ⊎_elim, ℕ, zero, suc, ◌+◌, ◌-◌, ◌≤◌, Contains, true, false, List, [], ◌∷◌, ◌++◌, Option, Some, None, length, arith}
 use Rattle.std.proofs.lemmas.Option.{slice_get_within}
 use Rattle.delos_types.specs.Spaces.{SpaceMap}
 use Rattle.delos_types.specs.declared.entry.Entry.{Entry}
-use Rattle.delos_types.specs.declared.chain.Chain.{Chain}
-use Rattle.chain_map.specs.Chain.{last_id}
 use Rattle.legal_journal.specs.Law.{Law}
 use Rattle.legal_journal.specs.declared.events.Event.{Event}
 use Rattle.legal_journal.specs.declared.events.FabricCall.{FabricCall}
@@ -14,27 +10,31 @@ use Rattle.legal_journal.specs.declared.events.FabricCall.TheVariants.{ReadChain
 use Rattle.legal_journal.specs.declared.events.FabricAnswer.{FabricAnswer}
 use Rattle.legal_journal.specs.declared.events.FabricAnswer.TheVariants.{At, Down, Set}
 use Rattle.legal_journal.specs.Moves.{move, move_of}
-use Rattle.legal_journal.specs.Journal.{CellState, State, start, state_of, after, after_all, IsAllowed, IsLegalFrom, IsLegal}
-use Rattle.legal_journal.proofs.Legal.{IsLegalFrom-split, IsLegalFrom-join, after_all-append}
-use Rattle.journal_laws.specs.Changes.{Adds, appended, entry_begun}
+use Rattle.legal_journal.specs.Sealing.{begins_seal, is_seal}
+use Rattle.legal_journal.specs.Turns.{AreOthers}
+use Rattle.std.proofs.lemmas.Bool.{both_ways}
+use Rattle.legal_journal.specs.Journal.{State, start, state_of, after, after_all, IsAllowed, IsLegalFrom, IsLegal}
+use Rattle.legal_journal.proofs.Legal.{IsLegalFrom-split, IsLegalFrom-join}
+use Rattle.journal_laws.specs.Changes.{appended, entry_begun}
 use Rattle.journal_laws.proofs.Changes.{adds_none}
-use Rattle.journal_laws.specs.Faults.{faults_in}
-use Rattle.journal_laws.specs.Unsealed.{IsUnsealed}
-use Rattle.journal_laws.proofs.Staying.{calm_parts}
 use Rattle.base_engine.specs.Holding.{held_stays}
+use Rattle.engine_api.specs.declared.content.Content.{Content}
+use Rattle.engine_api.specs.declared.content.Content.TheVariants as content
 use Rattle.replica_api.specs.Replica.{Saved}
 use Rattle.script_text.specs.declared.asks.NamedLine.{NamedLine}
 use Rattle.turn_scopes.specs.Alone.{AreOwn}
 use Rattle.node_lines.specs.declared.lines.Looked.{Looked}
-use Rattle.node_lines.specs.Workers.{IsOfSessions, Within}
-use Rattle.run_course.specs.Script.{BeginsAt}
-use Rattle.run_course.specs.Course.{Course, CourseOk, TurnOf}
-use Rattle.run_course.specs.Replacing.{has_replaced}
-use Rattle.run_course.proofs.Advance.{advanced, advance_still, turned}
-use Rattle.run_course.proofs.Told.{TellsOn, tells_commands}
-use Rattle.run_course.proofs.Waiting.{rests_on}
-use Rattle.run_ends.specs.Closing.{WorkerEnd, HasClosed}
+use Rattle.run_laws.proofs.Members.{Among, contained-among, contains-among}
+use Rattle.node_course.specs.Moments.{NodeCourse, and_then}
+use Rattle.node_course.specs.Course.{CourseOk}
+use Rattle.node_course.specs.Joined.{faults_to}
+use Rattle.node_course.specs.Telling.{AreBehind, IsBehind}
+use Rattle.node_course.specs.Workers.{NodeAt}
+use Rattle.node_course.proofs.Stands.{behind_so}
+use Rattle.node_course.proofs.Staying.{node_stays_by}
+use Rattle.run_ends.specs.Closing.{WorkerClosed, WorkerEnd, HasClosed}
 use Rattle.run_ends.specs.Reads.{AreReads}
+use Rattle.run_ends.proofs.Turns.{some_at}
 
 -- whatever b allows of a read, a does: it is the register's
 module _ (law : Law) (a b : ℕ → Entry → Type 0) (w : State) (who : ℕ) where
@@ -99,19 +99,6 @@ module _ (law : Law) where
       let rest = reads_keep (after w e.who (move e)) es one.settled reads.1 legal.1 in
       record { chain = rest.chain ∙ one.chain; settled = rest.settled; cells = rest.cells ∙ one.cells }
 
--- the chain isn't sealed by that
-pub reads_unsealed : (law : Law) (journal more : List Event) (n : ℕ) → IsLegal law (journal ++ more) → AreReads more
-    → (faults_in journal ≡ [] → IsUnsealed (state_of journal) n) → faults_in (journal ++ more) ≡ [] → IsUnsealed (state_of (journal ++ more)) n
-reads_unsealed law journal more n legal reads was calm =
-    let h = was (calm_parts journal (journal ++ more) more refl calm).0 in
-    let same = reads_keep law (state_of journal) more h.asked reads (IsLegalFrom-split law start journal more legal.steps).1 in
-    subst (λ (w : State). IsUnsealed w n) (sym (after_all-append start journal more)) (record {
-      last = ap last_id same.chain ∙ h.last;
-      segments = λ none. ap (λ (c : Chain). length c.segments) same.chain ∙ h.segments (sym (ap (λ (c : Chain). c.trim) same.chain) ∙ none);
-      none = λ i up. ap (λ (cells : ℕ → CellState). (cells i).told.seals) same.cells ∙ h.none i up;
-      asked = same.settled;
-    })
-
 -- none of that appends an entry
 pub appended_none : (es : List Event) → AreReads es → appended es ≡ []
 appended_none [] r = refl
@@ -121,62 +108,95 @@ appended_none (e ∷ es) r = rw (begun_none e.call e.answer r.0) (appended_none 
     begun_none call answer (inl is) = subst (λ k. entry_begun k answer ≡ None) (sym is) refl
     begun_none call answer (inr is) = subst (λ k. entry_begun k answer ≡ None) (sym is.1) refl
 
-pub zero-apart : (j : ℕ) → (0 == j + 1) ≡ false
-zero-apart j = by (0 == j + 1) refl
-  where
-    by : (b : Bool) → (0 == j + 1) ≡ b → (0 == j + 1) ≡ false
-    by false e = e
-    by true e = absurd (grind (arith, nat_tests, e))
+-- it is by another than any node
+none_own : (n : ℕ) (es : List Event) → 1 ≤ n → AreOwn 0 es → AreOthers n es
+none_own n [] low own = tt
+none_own n (e ∷ es) low own = (λ same. absurd (let zero_is = own.0 in omega (arith, same, zero_is, low)), none_own n es low own.1)
+
+-- none of that begins a Seal
+unsealing : (call : FabricCall) → (call ≡ ReadChain) ⊎ ((word : ℕ) × (call ≡ MendMeta word)) → is_seal call ≡ false
+unsealing call (inl is) = ap is_seal is
+unsealing call (inr is) = ap is_seal is.1
+
+reads_seal_none : (es : List Event) (e : Event) → AreReads es → Among es e → begins_seal e ≡ false
+reads_seal_none [] e r h = absurd h
+reads_seal_none (x ∷ es) e r (inl same) = subst (λ y. begins_seal y ≡ false) same (unsealing x.call r.0)
+reads_seal_none (x ∷ es) e r (inr later) = reads_seal_none es e r.1 later
+
+among_split : (xs ys : List Event) (e : Event) → Among (xs ++ ys) e → Among xs e ⊎ Among ys e
+among_split [] ys e h = inr h
+among_split (x ∷ xs) ys e (inl same) = inl (inl same)
+among_split (x ∷ xs) ys e (inr later) = ⊎_elim (λ (h : Among xs e). inl (inr h)) (λ (h : Among ys e). inr h) (among_split xs ys e later)
+
+-- nor is anything appended
+pub unsaid : (more : List Event) → AreReads more → (early : List Event) (e : Entry) → Contains (appended (early ++ more)) e → Contains (appended early) e
+unsaid more reads early e has = ⊎_elim (λ (was : Contains (appended early) e). was) (λ (none : ⊥). absurd none) (adds_none (λ x. ⊥) early more (appended_none more reads) e has)
+
+module _ (law : Law) (journal more : List Event) (reads : AreReads more) (legal : IsLegal law (journal ++ more)) where
+  behind_on : (c : Content) → IsBehind journal c → IsBehind (journal ++ more) c
+  behind_on (content.Session s r x) b = tt
+  behind_on (content.Alive node n) b = behind_so law journal (journal ++ more) more refl legal n (content.Alive node n) b
+  behind_on (content.Leave node) b = tt
+  behind_on (content.Trim n) b = behind_so law journal (journal ++ more) more refl legal n (content.Trim n) b
+
+  are_behind : AreBehind journal → AreBehind (journal ++ more)
+  are_behind h = λ e p has says. behind_on p.content (h e p (unsaid more reads journal e has) says)
+
+-- others' events bring no faults
+faults_stay : (courses : ℕ → NodeCourse) (more : List Event) (n : ℕ) → faults_to (λ k. and_then (courses k) more) n ≡ faults_to courses n
+faults_stay courses more zero = refl
+faults_stay courses more (suc n) = ap (λ fs. fs ++ (courses (suc n)).faults) (faults_stay courses more n)
 
 module _ (law : Law) (state : List Entry → SpaceMap → Type 0) (spells : List ℕ → Saved → Type 0) (lines : List NamedLine) (journal more : List Event) (looks : List (Option Looked)) (log : List Entry) (workers : List WorkerEnd) (h : HasClosed law state spells lines journal looks log workers) (own : AreOwn 0 more) (reads : AreReads more) (legal : IsLegal law (journal ++ more)) where
-  within : IsLegal (record law { may = Within law.may h.counts }) (journal ++ more)
-  within = reads_legal law (Within law.may h.counts) law.may journal more reads (subst (IsLegal (record law { may = Within law.may h.counts })) h.journal_is h.ok.legal) legal
+  abbrev then' : NodeCourse
+  then' = and_then h.run more
 
-  seen : journal ++ more ≡ h.course.journal ++ more
-  seen = ap (λ l. l ++ more) (sym h.journal_is)
+  abbrev courses : ℕ → NodeCourse
+  courses n = and_then (h.courses n) more
 
-  some : 1 ≤ length workers
-  some = let least = h.lines_are.there 0 in let most = h.lines_are.within 0 in omega (arith, least, most)
+  -- a node stays as it was
+  module _ (n : ℕ) (w : WorkerEnd) (k : WorkerClosed law state spells lines h.home (length workers) (h.courses n) looks log n w) (least : 1 ≤ n) (most : n ≤ length workers) where
+    stays : NodeAt law state spells lines h.home (length workers) (courses n) looks n (length lines) (length lines) (h.courses n).phase w.seat k.was
+    stays =
+        let seen = (h.joined.part n least most).seen ∙ h.seen_is in
+        node_stays_by law state spells lines h.home (length workers) (h.courses n) looks looks n (length lines) (length lines) (h.courses n).phase more w.seat k.was (none_own n more least own)
+        (subst (λ j. IsLegal law (j ++ more)) (sym seen) legal) refl (λ i l at here. refl) k.rests.node
+        (λ e p there among position is. k.rests.node.reports e p (unsaid more reads (h.courses n).seen e there) among position is)
 
-  abbrev then' : Course
-  then' = advanced h.course 0 [] (journal ++ more) h.course.when
+    closed : WorkerClosed law state spells lines h.home (length workers) (courses n) looks log n w
+    closed = record { was = k.was; rests = record { node = stays; none_given = k.rests.none_given }; short = k.short; size = k.size; each = k.each }
 
-  tells : TellsOn lines looks 0 0 0 h.course.journal (journal ++ more)
-  tells =
-      tells_commands (record law { may = Within law.may h.counts }) h.course.journal (journal ++ more) more seen within lines looks looks 0 0 0 (λ i look at. at) (omega arith) h.ok.told
-      (subst (Adds IsOfSessions h.course.journal) (sym seen) (adds_none IsOfSessions h.course.journal more (appended_none more reads)))
+  did : (n : ℕ) → 1 ≤ n → n ≤ length workers → CourseOk law lines (length workers) n (courses n) looks
+  did n least most =
+      let w = some_at workers (n - 1) (omega (arith, least, most)) in
+      let same : n - 1 + 1 ≡ n = omega (arith, least) in
+      let k = subst (λ m. WorkerClosed law state spells lines h.home (length workers) (h.courses m) looks log m w.0) same (h.each (n - 1) w.0 w.1) in
+      (stays n w.0 k least most).did
 
-  ok : CourseOk law lines (length workers) then' h.counts looks
-  ok = advance_still law lines (length workers) h.course h.counts looks h.ok 1 [] (journal ++ more) more h.course.when h.counts seen within h.ok.long (omega arith) some (λ P store. omega arith)
-      (reads_unsealed law journal more (count_by has_replaced looks) legal reads (subst (λ es. faults_in es ≡ [] → IsUnsealed (state_of es) (count_by has_replaced looks)) h.journal_is h.ok.unsealed))
-      tells.told
-
-  turn : TurnOf lines h.home 0 h.course then' h.counts h.counts looks looks
-  turn = turned lines h.home 0 h.course [] (journal ++ more) h.course.when h.counts h.counts looks looks (record { more = more; seen = seen; own = own }) (λ s other. refl) (λ s other. refl) (λ s. omega arith) refl (λ i l at other. refl) (λ m cursor other. tells.others m cursor other) (λ by none. refl)
-
-  begins : BeginsAt lines (length lines) h.course.phase
-  begins = record {
-    before = λ i l at low. h.over i l at;
-    behind = λ i l at high. absurd (let inside = slice_get_within lines i l at in omega (arith, inside, high));
-  }
+  seals : (e : Event) → Contains (journal ++ more) e → begins_seal e ≡ true → (1 ≤ e.who) × (e.who ≤ length workers)
+  seals e has is = ⊎_elim
+      (λ (was : Among journal e). h.seals e (contains-among journal e was) is)
+      (λ (now : Among more e). absurd (both_ways false refl (sym (reads_seal_none more e reads now) ∙ is)))
+      (among_split journal more e (contained-among (journal ++ more) e has))
 
   pub closed_on : HasClosed law state spells lines (journal ++ more) looks log workers
   closed_on = record {
     home = h.home;
-    course = then';
-    counts = h.counts;
-    journal_is = refl;
+    run = then';
+    courses = courses;
+    seen_is = ap (λ l. l ++ more) h.seen_is;
     lines_are = h.lines_are;
-    ok = ok;
+    joined = record {
+      faults = h.joined.faults ∙ sym (faults_stay h.courses more (length workers));
+      part = λ n least most.
+          let part = h.joined.part n least most in
+          record { seen = ap (λ l. l ++ more) part.seen; phase = part.phase; begins = part.begins; when = part.when };
+      did = did;
+    };
     over = h.over;
     front = λ pos e at. held_stays law journal more pos e legal (h.front pos e at);
-    each = λ j w at.
-        let x = h.each j w at in
-        record {
-          was = x.was;
-          rests = rests_on law state spells lines h.home (length workers) h.course then' h.counts h.counts looks looks 0 (j + 1) (length lines) h.course.phase w.seat x.was h.lines_are (zero-apart j) begins (omega arith) h.ok turn ok x.rests;
-          size = x.size;
-          short = x.short;
-          each = x.each;
-        };
+    each = λ j w at. closed (j + 1) w (h.each j w at) (omega arith) (let low = slice_get_within workers j w at in omega (arith, low));
+    beside = h.beside;
+    seals = seals;
+    behind = are_behind law journal more reads legal h.behind;
   }

@@ -1,5 +1,5 @@
 -- What nodes reported, and that they left, once the run has ended.
-use Rattle.std.proofs.Common.{◌≡◌, refl, sym, ap, ◌∙◌, subst, inl, inr, ⊎_elim, ℕ, zero, suc, ◌+◌, ◌-◌, ◌<◌, ◌≤◌, List, [], ◌∷◌, Option, Some, None, map, length, Contains, arith}
+use Rattle.std.proofs.Common.{◌≡◌, refl, ap, ◌∙◌, ℕ, ◌+◌, ◌≤◌, List, Option, Some, None, length, arith}
 use Rattle.delos_types.specs.declared.entry.Entry.{Entry}
 use Rattle.legal_journal.specs.Law.{Law}
 use Rattle.legal_journal.specs.declared.events.Event.{Event}
@@ -16,8 +16,8 @@ use Rattle.node_lines.specs.declared.desk.Desk.{Desk}
 use Rattle.node_lines.specs.declared.lines.Looked.{Looked}
 use Rattle.node_lines.specs.declared.lines.Looked.TheVariants as looked
 use Rattle.run_laws.specs.Ended.{HasReported}
-use Rattle.run_course.specs.Reporting.{IsReport, ReportedSo}
-use Rattle.run_course.specs.Leaving.{LeftSo}
+use Rattle.node_course.specs.Reporting.{IsReport, ReportedSo}
+use Rattle.node_course.specs.Leaving.{LeftSo}
 use Rattle.run_ends.specs.Rows.{Tells}
 use Rattle.run_ends.proofs.Placing.{fronts_agree}
 
@@ -96,5 +96,5 @@ leave_within journal cursor cursor' node (looked.Kept cause) up h = tt
 leave_within journal cursor cursor' node (looked.Failed cause) up h = tt
 leave_within journal cursor cursor' node (looked.Extended x) up h = tt
 leave_within journal cursor cursor' node (looked.Reported position) up h = tt
-leave_within journal cursor cursor' node looked.Left up h = record { stands = h.stands; within = omega (arith, h.within, up) }
+leave_within journal cursor cursor' node looked.Left up h = record { stands = h.stands; upto = h.upto; low = omega (arith, h.low, up); within = h.within }
 leave_within journal cursor cursor' node (looked.Trimmed trim) up h = tt

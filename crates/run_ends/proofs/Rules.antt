@@ -24,8 +24,8 @@ use Rattle.script_text.specs.declared.line.Session as script
 use Rattle.run_laws.specs.Ended.{IsAtHome, LogsThis}
 use Rattle.run_laws.proofs.Members.{all-at, found-among}
 use Rattle.node_lines.specs.Workers.{IsHome, MayRun}
-use Rattle.run_course.specs.Script.{AreLines}
-use Rattle.run_course.proofs.Lines.{at_get}
+use Rattle.node_course.specs.Script.{AreLines}
+use Rattle.node_course.proofs.Lines.{at_get}
 use Rattle.turn_scopes.specs.Floors.{MayTrim, FloorIs}
 use Rattle.run_ends.specs.Rules.{law_of, HasLine, LogsRank, IsLineOf, may_of, AreOfLines, IsAskedBy}
 use Rattle.run_ends.proofs.Contents.{all-contained, unpack_all-has, to_packed, one, joined, appearances-has}

@@ -5,6 +5,7 @@ use Rattle.delos_types.specs.declared.entry.Entry.{Entry}
 use Rattle.delos_types.specs.declared.cause.Cause.{Cause}
 use Rattle.legal_journal.specs.Law.{Law}
 use Rattle.legal_journal.specs.declared.events.Event.{Event}
+use Rattle.legal_journal.specs.Journal.{IsLegal}
 use Rattle.replica_api.specs.Replica.{Saved}
 use Rattle.script_text.specs.declared.asks.NamedLine.{NamedLine}
 use Rattle.row_text.specs.declared.row.Row.{Row}
@@ -14,25 +15,45 @@ use Rattle.node_lines.specs.declared.lines.Looked.{Looked}
 use Rattle.node_lines.proofs.Turning.{was_at}
 use Rattle.fitting_run.specs.Lines.{logs_for}
 use Rattle.run_laws.specs.Ended.{CameTo, LogsRank, Played, SessionEnd, SessionEnded, rank_in}
-use Rattle.run_course.specs.Desks.{DeskAt, LogsIn}
+use Rattle.node_course.specs.Desks.{DeskAt, LogsIn}
+use Rattle.node_course.specs.Workers.{NodeAt}
+use Rattle.node_course.proofs.Parts.{run_legal}
+use Rattle.node_course.proofs.Together.{desk_run}
 use Rattle.run_ends.specs.Closing.{DeskClosed, HasClosed, WorkerClosed, WorkerEnd}
 use Rattle.run_ends.specs.Rows.{AreRows, played_of}
 use Rattle.run_ends.specs.Ends.{answered_of, desk_in, end_at, end_of}
 use Rattle.run_ends.proofs.Turns.{lines_are, some_at, turn_of}
 
 module _ (law : Law) (state : List Entry → SpaceMap → Type 0) (spells : List ℕ → Saved → Type 0) (lines : List NamedLine) (journal : List Event) (looks : List (Option Looked)) (log : List Entry) (workers : List WorkerEnd) (h : HasClosed law state spells lines journal looks log workers) where
+  -- there is a node
+  pub some : 1 ≤ length workers
+  some = let least = h.lines_are.there 0 in let most = h.lines_are.within 0 in omega (arith, least, most)
+
+  -- a look for each line
+  pub size : length looks ≡ length lines
+  size = (h.joined.did 1 (omega arith) some).size
+
+  pub legal : IsLegal law h.run.seen
+  legal = run_legal law lines h.home (length workers) h.run looks h.courses h.joined some
+
+  -- a node once it has closed, when the run's phases are over
+  pub ended_at : (n : ℕ) (w : WorkerEnd) (k : WorkerClosed law state spells lines h.home (length workers) (h.courses n) looks log n w) → 1 ≤ n → n ≤ length workers
+      → NodeAt law state spells lines h.home (length workers) (h.courses n) looks n (length lines) (length lines) h.run.phase w.seat k.was
+  ended_at n w k least most =
+      subst (λ done. NodeAt law state spells lines h.home (length workers) (h.courses n) looks n (length lines) (length lines) done w.seat k.was) (h.joined.part n least most).phase k.rests.node
+
   -- the end of a session that was so stopped, or not
   abbrev pub ends_so : ℕ → Desk → SessionEnd
-  ends_so s d = record { stopped = d.stopped; when = h.course.when s; answered = answered_of lines d.answered }
+  ends_so s d = record { stopped = d.stopped; when = h.run.when s; answered = answered_of lines d.answered }
 
   abbrev pub the_end : ℕ → SessionEnd
-  the_end s = end_of lines workers h.home h.course.when s
+  the_end s = end_of lines workers h.home h.run.when s
 
   -- the node of a session
   pub record AtHome (s : ℕ) : Type 0 where
     pub worker : WorkerEnd
     pub at : slice_get workers (h.home s - 1) ≡ Some worker
-    pub closed : WorkerClosed law state spells lines h.home (length workers) h.course h.counts looks log (h.home s) worker
+    pub closed : WorkerClosed law state spells lines h.home (length workers) (h.courses (h.home s)) looks log (h.home s) worker
 
   pub at_home : (s : ℕ) → AtHome s
   at_home s =
@@ -43,7 +64,7 @@ module _ (law : Law) (state : List Entry → SpaceMap → Type 0) (spells : List
       record {
         worker = w.0;
         at = w.1;
-        closed = subst (λ n. WorkerClosed law state spells lines h.home (length workers) h.course h.counts looks log n w.0) same (h.each (h.home s - 1) w.0 w.1);
+        closed = subst (λ n. WorkerClosed law state spells lines h.home (length workers) (h.courses n) looks log n w.0) same (h.each (h.home s - 1) w.0 w.1);
       }
 
   -- a session's desk there, before and after its node closed
@@ -55,10 +76,10 @@ module _ (law : Law) (state : List Entry → SpaceMap → Type 0) (spells : List
     pub rest : now ≡ record was { answers = now.answers }
     pub all : 0 < was.asked → AreAllAnswers log s now.answers.items
     pub ends : the_end s ≡ ends_so s was
-    pub stands : DeskAt lines h.home h.course h.counts (h.home s) (length lines) (length lines) h.course.phase s was
+    pub stands : DeskAt lines h.home h.run (h.home s) (length lines) (length lines) h.run.phase s was
 
-  end_is : (s : ℕ) (n : AtHome s) (o : Option Desk) → slice_get n.worker.desks s ≡ o → the_end s ≡ end_at lines (h.course.when s) o
-  end_is s n o is = ap (λ w. end_at lines (h.course.when s) (desk_in w s)) n.at ∙ ap (end_at lines (h.course.when s)) is
+  end_is : (s : ℕ) (n : AtHome s) (o : Option Desk) → slice_get n.worker.desks s ≡ o → the_end s ≡ end_at lines (h.run.when s) o
+  end_is s n o is = ap (λ w. end_at lines (h.run.when s) (desk_in w s)) n.at ∙ ap (end_at lines (h.run.when s)) is
 
   desk_of : (s : ℕ) (n : AtHome s) (was : Desk) → slice_get n.closed.was s ≡ Some was → DeskClosed log s was n.worker.desks → HasDesk s n
   desk_of s n was there k = record {
@@ -68,14 +89,16 @@ module _ (law : Law) (state : List Entry → SpaceMap → Type 0) (spells : List
     now_there = k.is;
     rest = k.rest;
     all = k.all;
-    ends = end_is s n (Some k.now) k.is ∙ ap (λ d. end_at lines (h.course.when s) (Some d)) k.rest;
-    stands = n.closed.rests.worker.each s was there;
+    ends = end_is s n (Some k.now) k.is ∙ ap (λ d. end_at lines (h.run.when s) (Some d)) k.rest;
+    stands =
+        desk_run law state spells lines h.home (length workers) h.run looks h.courses h.joined (h.home s) (length lines) (length lines) h.run.phase n.worker.seat n.closed.was (h.lines_are.there s) (h.lines_are.within s)
+        (ended_at (h.home s) n.worker n.closed (h.lines_are.there s) (h.lines_are.within s)) s was there;
   }
 
   -- where the session is one of those that nodes keep
   pub has_desk : (s : ℕ) (n : AtHome s) → s < 64 → HasDesk s n
   has_desk s n low =
-      let size = n.closed.rests.worker.ok.size in
+      let size = n.closed.rests.node.ok.size in
       let d = some_at n.closed.was s (omega (arith, low, size)) in
       desk_of s n d.0 d.1 (n.closed.each s d.0 d.1)
 
@@ -104,7 +127,7 @@ module _ (law : Law) (state : List Entry → SpaceMap → Type 0) (spells : List
     -- the line with its row
     logs_rank : (s r phase : ℕ) → LogsIn lines s r phase → LogsRank played s r phase
     logs_rank s r phase k =
-        let t = turn_of played k.at k.line (ap (λ ls. slice_get ls k.at) (lines_are lines rows looks are.size h.ok.size) ∙ k.is) in
+        let t = turn_of played k.at k.line (ap (λ ls. slice_get ls k.at) (lines_are lines rows looks are.size size) ∙ k.is) in
         record {
           at = k.at;
           turn = t.0;
@@ -114,30 +137,30 @@ module _ (law : Law) (state : List Entry → SpaceMap → Type 0) (spells : List
           early = subst (λ (l : NamedLine). l.phase ≤ phase) (sym t.2) k.early;
         }
 
-    pub session_ended : (s : ℕ) → SessionEnded played h.course.faults h.home s (the_end s)
+    pub session_ended : (s : ℕ) → SessionEnded played h.run.faults h.home s (the_end s)
     session_ended s = by (slice_get n.worker.desks s) refl
       where
         n : AtHome s
         n = at_home s
 
-        free : SessionEnded played h.course.faults h.home s (end_at lines (h.course.when s) None)
+        free : SessionEnded played h.run.faults h.home s (end_at lines (h.run.when s) None)
         free = record { unanswered = λ some. absurd (cc); fault = λ k stop. absurd (none_some k stop) }
 
-        kept : (d : HasDesk s n) → SessionEnded played h.course.faults h.home s (ends_so s d.was)
+        kept : (d : HasDesk s n) → SessionEnded played h.run.faults h.home s (ends_so s d.was)
         kept d = record {
           unanswered = λ some.
               let k = some_cause d.was.stopped some in
               let a = stopped_first s n d k.0 k.1 in
-              subst (λ o. LogsRank played s (answered_of lines o + 1) (h.course.when s)) (sym a.1) (logs_rank s (a.0 + 1) (h.course.when s) (d.stands.ended a.0 a.1).unanswered);
+              subst (λ o. LogsRank played s (answered_of lines o + 1) (h.run.when s)) (sym a.1) (logs_rank s (a.0 + 1) (h.run.when s) (d.stands.ended a.0 a.1).unanswered);
           fault = λ k stop.
               let a = stopped_first s n d k stop in
               let ended = d.stands.ended a.0 a.1 in
-              subst (λ j. CameTo h.course.faults j (h.home s) (h.course.when s)) (same_cause ended.cause k d.was.stopped ended.is stop) ended.came;
+              subst (λ j. CameTo h.run.faults j (h.home s) (h.run.when s)) (same_cause ended.cause k d.was.stopped ended.is stop) ended.came;
         }
 
-        by : (o : Option Desk) → slice_get n.worker.desks s ≡ o → SessionEnded played h.course.faults h.home s (the_end s)
-        by None is = subst (SessionEnded played h.course.faults h.home s) (sym (end_is s n None is)) free
+        by : (o : Option Desk) → slice_get n.worker.desks s ≡ o → SessionEnded played h.run.faults h.home s (the_end s)
+        by None is = subst (SessionEnded played h.run.faults h.home s) (sym (end_is s n None is)) free
         by (Some x) is =
             let was = was_at n.closed.was n.worker.desks s x n.closed.size is in
             let d = desk_of s n was.0 was.1 (n.closed.each s was.0 was.1) in
-            subst (SessionEnded played h.course.faults h.home s) (sym d.ends) (kept d)
+            subst (SessionEnded played h.run.faults h.home s) (sym d.ends) (kept d)

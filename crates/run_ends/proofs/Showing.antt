@@ -1,5 +1,5 @@
 -- What stands in the log stands in the loglets, at its position, where it isn't trimmed.
-use Rattle.std.proofs.Common.{◌≡◌, refl, sym, ap, ◌∙◌, subst, inl, inr, ⊎_elim, ◌⊎◌, ℕ, zero, suc, ◌+◌, ◌-◌, ◌<◌, ◌≤◌, Bool, true, false, List, [], ◌∷◌, Option, Some, None, is_some, map, length, slice_get, Contains, arith}
+use Rattle.std.proofs.Common.{◌≡◌, refl, sym, ap, ◌∙◌, subst, inl, inr, ⊎_elim, ◌⊎◌, ℕ, zero, suc, ◌+◌, ◌-◌, ◌<◌, ◌≤◌, true, false, List, [], ◌∷◌, Option, Some, None, is_some, map, length, slice_get, Contains, arith}
 use Rattle.std.specs.Prelude.{filter_map}
 use Rattle.std.specs.List.{cons_option, list_all}
 use Rattle.std.specs.Option.{option_and_then}
@@ -10,7 +10,6 @@ use Rattle.loglet_api.specs.View.{LogletView}
 use Rattle.legal_journal.specs.Law.{Law}
 use Rattle.legal_journal.specs.declared.events.Event.{Event}
 use Rattle.legal_journal.specs.Journal.{IsLegal, log_at, state_of, tail_of, trim_of}
-use Rattle.virtual_log.specs.Holding.{Holds}
 use Rattle.virtual_log.proofs.Agreeing.{holds_agree}
 use Rattle.virtual_log.proofs.Holding.{holds_stands}
 use Rattle.fabric_core.specs.Log.{has_no_gap, numbers, virtual_log, virtual_log_at, virtual_tail}
@@ -23,9 +22,9 @@ use Rattle.turn_scopes.proofs.Bounds.{stands_below}
 use Rattle.fitting_run.specs.Reports.{items_of as items_shown}
 use Rattle.run_laws.specs.Ended.{SaysFrom}
 use Rattle.run_laws.proofs.Members.{Among, among-left, among-right, contained-among, contains-among}
-use Rattle.run_course.specs.Reporting.{StandsThere}
-use Rattle.run_course.specs.Telling.{IsSaidBehind}
-use Rattle.run_course.proofs.Stands.{says_one}
+use Rattle.node_course.specs.Reporting.{StandsThere}
+use Rattle.node_course.specs.Telling.{IsSaidBehind}
+use Rattle.node_course.proofs.Stands.{says_one}
 use Rattle.run_ends.proofs.Standing.{no_gap}
 
 -- Items

@@ -34,17 +34,23 @@ use Rattle.node_lines.specs.declared.desk.Desk.{Desk}
 use Rattle.node_lines.specs.declared.lines.Looked.{Looked}
 use Rattle.node_lines.specs.declared.lines.Looked.TheVariants as looked
 use Rattle.node_lines.specs.Measuring.{IsCleanPoint}
-use Rattle.node_lines.specs.Workers.{MayRun}
+use Rattle.node_lines.specs.Workers.{MayRun, appended_by}
 use Rattle.node_lines.proofs.Cleaning.{at_index, clean_none, same_beginning}
 use Rattle.run_ends.specs.Rules.{HasAsked, IsLineOf, may_of}
 use Rattle.run_ends.proofs.Contents.{all-contained}
 use Rattle.run_laws.specs.Ended.{IsKnown, IsToLeave, LineTrimmed, LetsGo, Played, ReportsAbove, SaysFrom, SaysReport, SaysTrim, SomeTurn, TellsUpto, TrimsEnded}
 use Rattle.run_laws.proofs.Members.{among-map, contained-among, contains-among}
-use Rattle.run_course.specs.Telling.{AreTold, AskedFor, GoesFirst, IsSaidBehind, IsTrim, TellsAtLeast, ToldSo}
+use Rattle.node_course.specs.Script.{AreLines}
+use Rattle.node_course.specs.Played.{Came}
+use Rattle.node_course.specs.Telling.{AskedFor, IsBehind, IsSaidBehind, TellsAtLeast, ToldSo}
+use Rattle.node_course.specs.Joined.{GoesFirst, HadLowest}
+use Rattle.node_course.proofs.Lines.{at_get}
+use Rattle.node_course.proofs.Trimmed.{appender, had_lowest, trim_stands}
 use Rattle.run_ends.specs.Closing.{HasClosed, IsGivenBack, WorkerEnd}
 use Rattle.run_ends.specs.Rows.{AreRows, Tells, desk_for, played_of}
 use Rattle.run_ends.proofs.Turns.{lines_are, turn_is, turn_of}
 use Rattle.run_ends.proofs.Reports.{alive_is, retired_is}
+use Rattle.run_ends.proofs.Sessions.{size as looks_size}
 use Rattle.run_ends.proofs.Showing.{shown_from}
 
 -- Rows
@@ -110,6 +116,23 @@ some_in [] i low = absurd (omega (arith, low))
 some_in (x ∷ xs) zero low = (x, refl)
 some_in (x ∷ xs) (suc i) low = some_in xs i (omega (arith, low))
 
+-- an item of a line is of the line's node
+who_there : (lines : List NamedLine) (home : ℕ → ℕ) (nodes : ℕ) → AreLines lines home nodes → (who : ℕ) (c : Content) → IsLineOf lines who c → (1 ≤ who) × (who ≤ nodes)
+who_there lines home nodes are who c h = by c h
+  where
+    line_there : (at : ℕ) (line : NamedLine) → slice_get lines at ≡ Some line → line.node ≡ who → (1 ≤ who) × (who ≤ nodes)
+    line_there at line is node =
+        let there = at_get (λ (l : NamedLine). (1 ≤ l.node) × (l.node ≤ nodes)) lines at line are.nodes_are is in
+        let low = there.0 in
+        let high = there.1 in
+        (omega (arith, low, node), omega (arith, high, node))
+
+    by : (x : Content) → IsLineOf lines who x → (1 ≤ who) × (who ≤ nodes)
+    by (content.Session s r command) k = line_there k.at k.line k.is k.node
+    by (content.Alive node position) k = line_there k.1.at k.1.line k.1.is k.1.node
+    by (content.Leave node) k = line_there k.1.at k.1.line k.1.is k.1.node
+    by (content.Trim position) k = line_there k.at k.line k.is k.node
+
 module _ (law : Law) (state : List Entry → SpaceMap → Type 0) (spells : List ℕ → Saved → Type 0) (run : MayRun law) (lines : List NamedLine) (journal : List Event) (looks : List (Option Looked)) (log : List Entry) (workers : List WorkerEnd) (o : Told) (yard : Shown) (mine : (who : ℕ) (e : Entry) → law.may who e → may_of lines who e) (floor_is : FloorIs law.floor (length workers)) (h : HasClosed law state spells lines journal looks log workers) (are : AreRows lines workers looks o.rows) (back : IsGivenBack law journal workers o.chain yard) where
   abbrev played : List Played
   played = played_of lines o.rows looks
@@ -132,8 +155,13 @@ module _ (law : Law) (state : List Entry → SpaceMap → Type 0) (spells : List
       let sent = appended_may law journal e back.legal has in
       (sent.0, all-contained (λ (p : Placed). IsLineOf lines sent.0 p.content) (unpack 0 e) q (mine sent.0 e sent.1).items says)
 
-  told_now : AreTold lines looks journal
-  told_now = subst (AreTold lines looks) h.journal_is h.ok.told
+  -- what an entry says that was appended, its appender told
+  told_now : (e : Entry) (q : Placed) → Contains (appended journal) e → Contains (unpack 0 e) q → (who : ℕ) × ToldSo lines looks who journal q.content
+  told_now e q has says =
+      let by = appender law journal e back.legal has in
+      let there = who_there lines h.home (length workers) h.lines_are by.0 q.content (all-contained (λ (p : Placed). IsLineOf lines by.0 p.content) (unpack 0 e) q (mine by.0 e by.1.0).items says) in
+      let same : (h.courses by.0).seen ≡ journal = (h.joined.part by.0 there.0 there.1).seen ∙ h.seen_is in
+      (by.0, subst (λ j. ToldSo lines looks by.0 j q.content) same ((h.joined.did by.0 there.0 there.1).told e q (subst (λ j. Contains (appended_by by.0 j) e) (sym same) by.1.1) says))
 
   -- Where the log was trimmed it was to the lesser of the trim point and the least position of a member, and both are clean
 
@@ -161,16 +189,16 @@ module _ (law : Law) (state : List Entry → SpaceMap → Type 0) (spells : List
     reports_so : (p : Placed) (node n : ℕ) → Contains says p → p.content ≡ content.Alive node n → IsCleanPoint journal n × (n ≤ length f.log)
     reports_so p node n has is =
         let e = unpack_says f.log p has in
-        let b = (subst (ToldSo lines looks journal) (e.4 ∙ is) (told_now e.0 e.2 (f.each e.0 e.1) e.3)).0 in
+        let b = subst (IsBehind journal) (e.4 ∙ is) (h.behind e.0 e.2 (f.each e.0 e.1) e.3) in
         let high = said_above e.0 e.2 n (content.Alive node n) e.1 e.3 (e.4 ∙ is) b in
         let low = e.1.1 in
         (b.clean, omega (arith, high, low))
 
     -- what is said there of a position that isn't trimmed the loglets say
-    said_shown : (p : Placed) (n : ℕ) (c : Content) → Contains says p → p.content ≡ c → (ToldSo lines looks journal c → IsSaidBehind journal n c) → o.chain.trim ≤ n → SaysFrom o.chain yard.cells o.chain.trim c
+    said_shown : (p : Placed) (n : ℕ) (c : Content) → Contains says p → p.content ≡ c → (IsBehind journal c → IsSaidBehind journal n c) → o.chain.trim ≤ n → SaysFrom o.chain yard.cells o.chain.trim c
     said_shown p n c has is behind up =
         let e = unpack_says f.log p has in
-        let high = said_above e.0 e.2 n c e.1 e.3 (e.4 ∙ is) (behind (subst (ToldSo lines looks journal) (e.4 ∙ is) (told_now e.0 e.2 (f.each e.0 e.1) e.3))) in
+        let high = said_above e.0 e.2 n c e.1 e.3 (e.4 ∙ is) (behind (subst (IsBehind journal) (e.4 ∙ is) (h.behind e.0 e.2 (f.each e.0 e.1) e.3))) in
         let i = e.1.0 in
         let shown = f.shows i e.1.1 ∙ at_index f.log i e.0 e.1.1 e.1.2 in
         let here : o.chain.trim ≤ i = omega (arith, high, up) in
@@ -202,7 +230,7 @@ module _ (law : Law) (state : List Entry → SpaceMap → Type 0) (spells : List
         (λ (none : trim_point says ≡ 0). subst (IsCleanPoint journal) (sym none) (clean_none journal))
         (λ (q : (p : Placed) × Contains says p × (p.content ≡ content.Trim (trim_point says))).
         let e = unpack_says f.log q.0 q.1 in
-        (subst (ToldSo lines looks journal) (e.4 ∙ q.2) (told_now e.0 e.2 (f.each e.0 e.1) e.3)).clean)
+        (subst (IsBehind journal) (e.4 ∙ q.2) (h.behind e.0 e.2 (f.each e.0 e.1) e.3)).clean)
         (point_says says)
 
     -- the log from the trim on has that as much was asked for
@@ -213,7 +241,7 @@ module _ (law : Law) (state : List Entry → SpaceMap → Type 0) (spells : List
         ⊎_elim
         (λ (none : trim_point says ≡ 0). let zero_is : o.chain.trim ≡ 0 = omega (arith, point, none) in absurd (some zero_is))
         (λ (q : (p : Placed) × Contains says p × (p.content ≡ content.Trim (trim_point says))).
-        record { position = trim_point says; above = point; says = said_shown q.0 (trim_point says) (content.Trim (trim_point says)) q.1 q.2 (λ told. told) point })
+        record { position = trim_point says; above = point; says = said_shown q.0 (trim_point says) (content.Trim (trim_point says)) q.1 q.2 (λ b. b) point })
         (point_says says)
 
     -- and that each node reported as much that isn't to leave
@@ -224,7 +252,9 @@ module _ (law : Law) (state : List Entry → SpaceMap → Type 0) (spells : List
         by true left =
             let q = left_says says node left in
             let e = unpack_says f.log q.0 q.1 in
-            inl (subst (ToldSo lines looks journal) (e.4 ∙ q.2) (told_now e.0 e.2 (f.each e.0 e.1) e.3))
+            let by = told_now e.0 e.2 (f.each e.0 e.1) e.3 in
+            let told = subst (ToldSo lines looks by.0 journal) (e.4 ∙ q.2) by.1 in
+            inl (subst (λ who. AskedFor lines looks who Retire (λ look. Unit {0})) (sym told.0) told.1)
         by false stays =
             let m = floor_is.only f.log o.chain.trim f.free in
             let free = m.least in
@@ -233,7 +263,7 @@ module _ (law : Law) (state : List Entry → SpaceMap → Type 0) (spells : List
             ⊎_elim
             (λ (none : position_of says node ≡ 0). let zero_is : o.chain.trim ≡ 0 = omega (arith, above, none) in absurd (some zero_is))
             (λ (q : (p : Placed) × Contains says p × (p.content ≡ content.Alive node (position_of says node))).
-            inr (record { position = position_of says node; above = above; says = said_shown q.0 (position_of says node) (content.Alive node (position_of says node)) q.1 q.2 (λ told. told.0) above }))
+            inr (record { position = position_of says node; above = above; says = said_shown q.0 (position_of says node) (content.Alive node (position_of says node)) q.1 q.2 (λ b. b) above }))
             (position_says says node)
 
     trim_clean : IsCleanPoint journal o.chain.trim
@@ -262,7 +292,7 @@ module _ (law : Law) (state : List Entry → SpaceMap → Type 0) (spells : List
   -- Lines and their rows
 
   played_lines : map (λ t. t.line) played ≡ lines
-  played_lines = lines_are lines o.rows looks are.size h.ok.size
+  played_lines = lines_are lines o.rows looks are.size (looks_size law state spells lines journal looks log workers h)
 
   -- a line with its row
   turn_at : (at : ℕ) (line : NamedLine) → slice_get lines at ≡ Some line → (t : Played) × (slice_get played at ≡ Some t) × (t.line ≡ line)
@@ -282,15 +312,17 @@ module _ (law : Law) (state : List Entry → SpaceMap → Type 0) (spells : List
   -- Each trim
 
   module _ (j : ℕ) (t : Played) (trim : ℕ) (at : slice_get played j ≡ Some t) (is : t.row.outcome ≡ out.Trimmed trim) where
-    came : IsTrim lines looks (length workers) h.course.journal j t.line trim
+    came : Came lines looks t.line.node j t.line (looked.Trimmed trim)
     came =
         let k = turn_is lines o.rows looks j t at in
         let row = are.each j k.line k.look k.row k.line_at k.look_at k.row_at in
         let so = trimmed_is (desk_for workers k.line.node k.line.asks) k.look k.line.asks k.row.outcome trim row.tells (sym (ap (λ (y : Played). y.row.outcome) k.is) ∙ is) in
-        let there = h.ok.trims j k.line trim k.line_at (k.look_at ∙ ap Some so.1) in
-        subst (λ l. IsTrim lines looks (length workers) h.course.journal j l trim) (sym (ap (λ (y : Played). y.line) k.is)) there
+        record { is = k.line_at ∙ ap Some (sym (ap (λ (y : Played). y.line) k.is)); own = refl; looked = k.look_at ∙ ap Some so.1 }
 
-    below : (i : ℕ) (u : Played) → slice_get played i ≡ Some u → i < j → u.line.node ≡ came.lowest.node → (u.line.phase < t.line.phase) ⊎ (u.line.node ≡ t.line.node) → TellsUpto trim u.row.outcome
+    lowest : HadLowest lines looks (length workers) j t.line trim
+    lowest = had_lowest law lines h.home (length workers) h.run looks h.courses h.lines_are h.joined t.line.node j t.line trim came
+
+    below : (i : ℕ) (u : Played) → slice_get played i ≡ Some u → i < j → u.line.node ≡ lowest.node → (u.line.phase < t.line.phase) ⊎ (u.line.node ≡ t.line.node) → TellsUpto trim u.row.outcome
     below i u here early node behind =
         let k = turn_is lines o.rows looks i u here in
         let row = are.each i k.line k.look k.row k.line_at k.look_at k.row_at in
@@ -301,25 +333,25 @@ module _ (law : Law) (state : List Entry → SpaceMap → Type 0) (spells : List
         tells_upto trim u.row.outcome
         (λ n told.
         let so = alive_is (desk_for workers k.line.node k.line.asks) k.look k.line.asks k.row.outcome n row.tells (sym outcome_same ∙ told) in
-        came.lowest.each i u.line (looked.Reported n) line_at node (k.look_at ∙ ap Some so.1) goes)
+        lowest.each i u.line (looked.Reported n) (record { is = line_at; own = node; looked = k.look_at ∙ ap Some so.1 }) goes)
         (λ told.
         let so = retired_is (desk_for workers k.line.node k.line.asks) k.look k.line.asks k.row.outcome row.tells (sym outcome_same ∙ told) in
-        came.lowest.each i u.line looked.Left line_at node (k.look_at ∙ ap Some so.1) goes)
+        lowest.each i u.line looked.Left (record { is = line_at; own = node; looked = k.look_at ∙ ap Some so.1 }) goes)
 
     pub trim_of_row : length yard.disks ≡ length workers → LineTrimmed played (length yard.disks) o.chain.trim j t trim
     trim_of_row nodes = record {
-      upto = let up = came.upto in let same = trim_same ∙ ap (λ (es : List Event). trim_of (state_of es)) (sym h.journal_is) in omega (arith, up, same);
-      node = came.lowest.node;
-      least = came.lowest.least;
-      most = let most = came.lowest.most in omega (arith, most, nodes);
+      upto = let up = (trim_stands law lines h.home (length workers) h.run looks h.courses h.lines_are h.joined t.line.node j t.line trim came).0 in let same = trim_same ∙ ap (λ (es : List Event). trim_of (state_of es)) (sym h.seen_is) in omega (arith, up, same);
+      node = lowest.node;
+      least = lowest.least;
+      most = let most = lowest.most in omega (arith, most, nodes);
       told = below;
     }
 
   -- The end
 
-  module _ (told : (k : ℕ) → 1 ≤ k → k ≤ length workers → (trim_of (state_of h.course.journal) ≡ 0) ⊎ (AskedFor lines looks k Retire (λ look. Unit {0}) ⊎ AskedFor lines looks k Alive (TellsAtLeast (trim_of (state_of h.course.journal))))) where
-    now_trim : trim_of (state_of h.course.journal) ≡ o.chain.trim
-    now_trim = ap (λ (es : List Event). trim_of (state_of es)) h.journal_is ∙ sym trim_same
+  module _ (told : (k : ℕ) → 1 ≤ k → k ≤ length workers → (trim_of (state_of h.run.seen) ≡ 0) ⊎ (AskedFor lines looks k Retire (λ look. Unit {0}) ⊎ AskedFor lines looks k Alive (TellsAtLeast (trim_of (state_of h.run.seen))))) where
+    now_trim : trim_of (state_of h.run.seen) ≡ o.chain.trim
+    now_trim = ap (λ (es : List Event). trim_of (state_of es)) h.seen_is ∙ sym trim_same
 
     -- a line asks for a trim, where something is trimmed
     trim_line : o.chain.trim ≢ 0 → SomeTurn played (λ t. t.line.asks ≡ asks.Admin Trim)
@@ -344,33 +376,33 @@ module _ (law : Law) (state : List Entry → SpaceMap → Type 0) (spells : List
 
     turn_for : (node : ℕ) (what : _) (P : Looked → Type 0) → AskedFor lines looks node what P → (at : ℕ) × (t : Played) × (slice_get played at ≡ Some t) × (t.line.node ≡ node) × (t.line.asks ≡ asks.Admin what)
     turn_for node what P a =
-        let t = turn_at a.at a.line a.is in
-        (a.at, t.0, t.1, ap (λ (l : NamedLine). l.node) t.2 ∙ a.node_is, ap (λ (l : NamedLine). l.asks) t.2 ∙ a.asks)
+        let t = turn_at a.at a.line a.came.is in
+        (a.at, t.0, t.1, ap (λ (l : NamedLine). l.node) t.2 ∙ a.came.own, ap (λ (l : NamedLine). l.asks) t.2 ∙ a.asks)
 
     lets_go : o.chain.trim ≢ 0 → (node : ℕ) → 1 ≤ node → node ≤ length workers → SomeTurn played (LetsGo node)
     lets_go some node low high = ⊎_elim
-        (λ (none : trim_of (state_of h.course.journal) ≡ 0). absurd (some (sym now_trim ∙ none)))
+        (λ (none : trim_of (state_of h.run.seen) ≡ 0). absurd (some (sym now_trim ∙ none)))
         (λ k. ⊎_elim
         (λ (leaves : AskedFor lines looks node Retire (λ look. Unit {0})). let t = turn_for node Retire (λ look. Unit {0}) leaves in record { at = t.0; turn = t.1; is = t.2; so = record { node_is = t.3; kind = inr t.4 } })
-        (λ (reports : AskedFor lines looks node Alive (TellsAtLeast (trim_of (state_of h.course.journal)))).
-        let t = turn_for node Alive (TellsAtLeast (trim_of (state_of h.course.journal))) reports in
+        (λ (reports : AskedFor lines looks node Alive (TellsAtLeast (trim_of (state_of h.run.seen)))).
+        let t = turn_for node Alive (TellsAtLeast (trim_of (state_of h.run.seen))) reports in
         record { at = t.0; turn = t.1; is = t.2; so = record { node_is = t.3; kind = inl t.4 } })
         k)
         (told node low high)
 
     reached : (node : ℕ) → 1 ≤ node → node ≤ length workers → IsKnown played node → (o.chain.trim ≡ 0) ⊎ SomeTurn played (ReportsAbove node o.chain.trim)
     unfolding turn_for
-    reached node low high known = ⊎_elim (λ (none : trim_of (state_of h.course.journal) ≡ 0). inl (sym now_trim ∙ none)) (λ k. ⊎_elim left alive k) (told node low high)
+    reached node low high known = ⊎_elim (λ (none : trim_of (state_of h.run.seen) ≡ 0). inl (sym now_trim ∙ none)) (λ k. ⊎_elim left alive k) (told node low high)
       where
         left : AskedFor lines looks node Retire (λ look. Unit {0}) → (o.chain.trim ≡ 0) ⊎ SomeTurn played (ReportsAbove node o.chain.trim)
         left a = let t = turn_for node Retire (λ look. Unit {0}) a in absurd (known.stays t.0 t.1 t.2 t.3 t.4)
 
-        alive : AskedFor lines looks node Alive (TellsAtLeast (trim_of (state_of h.course.journal))) → (o.chain.trim ≡ 0) ⊎ SomeTurn played (ReportsAbove node o.chain.trim)
+        alive : AskedFor lines looks node Alive (TellsAtLeast (trim_of (state_of h.run.seen))) → (o.chain.trim ≡ 0) ⊎ SomeTurn played (ReportsAbove node o.chain.trim)
         alive a =
-            let t = turn_for node Alive (TellsAtLeast (trim_of (state_of h.course.journal))) a in
-            by t.0 t.1 t.2 t.3 t.4 a.look (tells_at t.0 t.1 Alive a.look t.2 t.4 a.looked) a.so
+            let t = turn_for node Alive (TellsAtLeast (trim_of (state_of h.run.seen))) a in
+            by t.0 t.1 t.2 t.3 t.4 a.look (tells_at t.0 t.1 Alive a.look t.2 t.4 a.came.looked) a.so
           where
-            by : (at : ℕ) (t : Played) → slice_get played at ≡ Some t → t.line.node ≡ node → t.line.asks ≡ asks.Admin Alive → (look : Looked) → Tells None (Some look) (asks.Admin Alive) t.row.outcome → TellsAtLeast (trim_of (state_of h.course.journal)) look
+            by : (at : ℕ) (t : Played) → slice_get played at ≡ Some t → t.line.node ≡ node → t.line.asks ≡ asks.Admin Alive → (look : Looked) → Tells None (Some look) (asks.Admin Alive) t.row.outcome → TellsAtLeast (trim_of (state_of h.run.seen)) look
                 → (o.chain.trim ≡ 0) ⊎ SomeTurn played (ReportsAbove node o.chain.trim)
             by at t is node_is asked (looked.Reported n) tells up =
                 inr (record { at = at; turn = t; is = is; so = record { node_is = node_is; clean = n; is = alive_told (Some (looked.Reported n)) t.row.outcome n tells refl; above = let same = now_trim in omega (arith, up, same) } })

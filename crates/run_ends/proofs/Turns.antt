@@ -5,8 +5,8 @@ use Rattle.script_text.specs.declared.asks.NamedLine.{NamedLine}
 use Rattle.row_text.specs.declared.row.Row.{Row}
 use Rattle.node_lines.specs.declared.lines.Looked.{Looked}
 use Rattle.run_laws.specs.Ended.{Played, AllAfter}
-use Rattle.run_course.specs.Script.{failure_of_look}
-use Rattle.run_course.proofs.Lines.{count-cons}
+use Rattle.node_course.specs.Script.{failure_of_look}
+use Rattle.node_course.proofs.Lines.{count-cons}
 use Rattle.run_ends.specs.Rows.{played_of}
 
 -- an element of a list that is long enough

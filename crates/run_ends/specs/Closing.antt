@@ -1,5 +1,5 @@
 -- All nodes of a run once they have closed.
-use Rattle.std.specs.Prelude.{◌≡◌, ℕ, ◌+◌, ◌<◌, ◌≤◌, List, length, map, slice_get, Option, Some}
+use Rattle.std.specs.Prelude.{◌≡◌, ◌≢◌, ℕ, ◌+◌, ◌<◌, ◌≤◌, true, List, length, map, Contains, slice_get, Option, Some}
 use Rattle.delos_types.specs.Spaces.{SpaceMap}
 use Rattle.delos_types.specs.declared.entry.Entry.{Entry}
 use Rattle.delos_types.specs.declared.chain.Chain.{Chain}
@@ -7,9 +7,11 @@ use Rattle.loglet_api.specs.View.{LogletView}
 use Rattle.legal_journal.specs.Law.{Law}
 use Rattle.legal_journal.specs.declared.events.Event.{Event}
 use Rattle.legal_journal.specs.Journal.{IsLegal, state_of, trim_of, tail_of, log_at}
+use Rattle.legal_journal.specs.Sealing.{begins_seal}
 use Rattle.fabric_core.specs.Log.{virtual_log_at, virtual_tail}
 use Rattle.fabric_core.specs.Runs.{HasRun, HasRegisterRun}
 use Rattle.virtual_log.specs.Holding.{Holds}
+use Rattle.virtual_log.specs.declared.extend.Extension.TheVariants.{Moved}
 use Rattle.replica_api.specs.Replica.{Saved}
 use Rattle.base_engine.specs.Reading.{IsFront}
 use Rattle.script_text.specs.declared.asks.NamedLine.{NamedLine}
@@ -19,9 +21,21 @@ use Rattle.turn_scopes.specs.Seats.{SeatView}
 use Rattle.node_lines.specs.declared.desk.Desk.{Desk}
 use Rattle.node_lines.specs.Answered.{AreAllAnswers}
 use Rattle.node_lines.specs.declared.lines.Looked.{Looked}
-use Rattle.run_course.specs.Script.{AreLines}
-use Rattle.run_course.specs.Course.{Course, CourseOk}
-use Rattle.run_course.specs.Workers.{Rests}
+use Rattle.node_lines.specs.declared.lines.Looked.TheVariants as looked
+use Rattle.node_course.specs.Script.{AreLines}
+use Rattle.node_course.specs.Moments.{NodeCourse}
+use Rattle.node_course.specs.Telling.{AreBehind}
+use Rattle.node_course.specs.Joined.{AreJoined}
+use Rattle.node_course.specs.Telling.{AreBehind}
+use Rattle.node_course.specs.Workers.{Rests}
+
+-- another node has a line in the phase of this one
+pub record HasBeside (lines : List NamedLine) (l : NamedLine) : Type 0 where
+  pub at : ℕ
+  pub line : NamedLine
+  pub is : slice_get lines at ≡ Some line
+  pub phase_is : line.phase ≡ l.phase
+  pub another : line.node ≢ l.node
 
 -- a node with its sessions
 pub record WorkerEnd : Type 0 where
@@ -36,23 +50,30 @@ pub record DeskClosed (log : List Entry) (s : ℕ) (was : Desk) (desks : List De
   pub all : 0 < was.asked → AreAllAnswers log s now.answers.items
 
 -- Node n rests behind the last line; no node has played the log further than `log`.
-pub record WorkerClosed (law : Law) (state : List Entry → SpaceMap → Type 0) (spells : List ℕ → Saved → Type 0) (lines : List NamedLine) (home : ℕ → ℕ) (nodes : ℕ) (c : Course) (counts : List ℕ) (looks : List (Option Looked)) (log : List Entry) (n : ℕ) (w : WorkerEnd) : Type 0 where
+pub record WorkerClosed (law : Law) (state : List Entry → SpaceMap → Type 0) (spells : List ℕ → Saved → Type 0) (lines : List NamedLine) (home : ℕ → ℕ) (nodes : ℕ) (c : NodeCourse) (looks : List (Option Looked)) (log : List Entry) (n : ℕ) (w : WorkerEnd) : Type 0 where
   pub was : List Desk
-  pub rests : Rests law state spells lines home nodes c counts looks n (length lines) c.phase w.seat was
+  pub rests : Rests law state spells lines home nodes c looks n (length lines) c.phase w.seat was
   pub short : w.seat.node.replica.cursor ≤ length log
   pub size : length w.desks ≡ length was
   pub each : (s : ℕ) (d : Desk) → slice_get was s ≡ Some d → DeskClosed log s d w.desks
 
 pub record HasClosed (law : Law) (state : List Entry → SpaceMap → Type 0) (spells : List ℕ → Saved → Type 0) (lines : List NamedLine) (journal : List Event) (looks : List (Option Looked)) (log : List Entry) (workers : List WorkerEnd) : Type 0 where
   pub home : ℕ → ℕ
-  pub course : Course
-  pub counts : List ℕ
-  pub journal_is : course.journal ≡ journal
+  -- the run, and each node's own course of it
+  pub run : NodeCourse
+  pub courses : ℕ → NodeCourse
+  pub seen_is : run.seen ≡ journal
   pub lines_are : AreLines lines home (length workers)
-  pub ok : CourseOk law lines (length workers) course counts looks
-  pub over : (i : ℕ) (l : NamedLine) → slice_get lines i ≡ Some l → l.phase < course.phase
+  pub joined : AreJoined law lines home (length workers) run looks courses
+  pub over : (i : ℕ) (l : NamedLine) → slice_get lines i ≡ Some l → l.phase < run.phase
   pub front : IsFront Holds journal log
-  pub each : (j : ℕ) (w : WorkerEnd) → slice_get workers j ≡ Some w → WorkerClosed law state spells lines home (length workers) course counts looks log (j + 1) w
+  pub each : (j : ℕ) (w : WorkerEnd) → slice_get workers j ≡ Some w → WorkerClosed law state spells lines home (length workers) (courses (j + 1)) looks log (j + 1) w
+  -- where a line found that another node had replaced the last loglet, another has a line in its phase
+  pub beside : (i : ℕ) (l : NamedLine) (version : ℕ) → slice_get lines i ≡ Some l → slice_get looks i ≡ Some (Some (looked.Extended (Moved version))) → HasBeside lines l
+  -- nobody but nodes began a Seal
+  pub seals : (e : Event) → Contains journal e → begins_seal e ≡ true → (1 ≤ e.who) × (e.who ≤ length workers)
+  -- each report stands behind what it reports, and each trim that is asked for behind its position
+  pub behind : AreBehind journal
 
 -- The yard that comes back: its loglets and its register are as the journal tells, each disk counted its node's faults.
 pub record IsGivenBack (law : Law) (journal : List Event) (workers : List WorkerEnd) (chain : Chain) (yard : Shown) : Type 0 where

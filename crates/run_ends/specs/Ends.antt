@@ -1,5 +1,5 @@
 -- How each session has ended.
-use Rattle.std.specs.Prelude.{ℕ, ◌-◌, List, length, slice_get, Option, Some, None, ◌≡◌, ◌+◌}
+use Rattle.std.specs.Prelude.{ℕ, ◌-◌, List, length, slice_get, Option, Some, None}
 use Rattle.script_text.specs.declared.asks.NamedLine.{NamedLine}
 use Rattle.node_lines.specs.declared.desk.Desk.{Desk}
 use Rattle.run_laws.specs.Ended.{SessionEnd}

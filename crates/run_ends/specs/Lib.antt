@@ -3,3 +3,4 @@ pub mod Rows
 pub mod Ends
 pub mod Reads
 pub mod Rules
+pub mod Told

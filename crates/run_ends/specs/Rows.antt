@@ -19,8 +19,8 @@ use Rattle.node_lines.specs.declared.lines.Looked.TheVariants as looked
 use Rattle.virtual_log.specs.declared.extend.Extension.TheVariants.{Extended, Moved, NoSpare}
 use Rattle.log_laws.specs.Told.{IsTold}
 use Rattle.run_laws.specs.Ended.{Played}
-use Rattle.run_course.specs.Script.{failure_of_look}
-use Rattle.run_course.specs.Desks.{IsOfNode}
+use Rattle.node_course.specs.Script.{failure_of_look}
+use Rattle.node_course.specs.Desks.{IsOfNode}
 use Rattle.run_ends.specs.Closing.{WorkerEnd}
 use Rattle.run_ends.specs.Ends.{desk_in, desks_at}
 

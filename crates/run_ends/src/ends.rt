@@ -1,6 +1,6 @@
 //! Laws of a run whose nodes have closed. Each function does nothing, or calls laws that its own rests on: its contract is
 //! the law.
-ghost use Rattle.std.specs.Prelude.{◌≡◌, ◌==◌, ◌+◌, ◌++◌, ℕ, List, [], ◌∷◌, length, map, count_by, Option, is_some};
+ghost use Rattle.std.specs.Prelude.{◌≡◌, ◌+◌, ◌++◌, ℕ, List, [], length, map, Option};
 ghost use Rattle.delos_types.specs.declared.entry.Entry.{Entry};
 ghost use Rattle.legal_journal.specs.declared.events.Event.{Event};
 ghost use Rattle.legal_journal.specs.Journal.{IsLegal, state_of};
@@ -11,18 +11,18 @@ ghost use Rattle.script_text.specs.declared.asks.NamedLine.{NamedLine};
 ghost use Rattle.fabric_core.specs.Fabric.{IsRegisterAsTold};
 ghost use Rattle.fitting_run.specs.declared.told.Told.{Told};
 ghost use Rattle.fitting_run.specs.Yard.{Shown};
-ghost use Rattle.fitting_run.specs.Replacements.{version_made};
-ghost use Rattle.fitting_run.specs.Calm.{GoesTo};
 ghost use Rattle.fitting_run.specs.Fits.{ChainIsRegistered};
 ghost use Rattle.node_lines.specs.declared.lines.Looked.{Looked};
 ghost use Rattle.turn_scopes.specs.Floors.{FloorIs};
 ghost use Rattle.node_lines.specs.Workers.{MayRun};
 ghost use Rattle.run_ends.specs.Rules.{may_of};
-ghost use Rattle.run_laws.specs.Ended.{LineEnded, SessionEnd, SessionEnded, AllAfter, FaultsCame, RunEnded};
+ghost use Rattle.run_laws.specs.Ended.{LineEnded, SessionEnded, AllAfter, FaultsCame, RunEnded};
 ghost use Rattle.run_ends.specs.Closing.{WorkerEnd, HasClosed, IsGivenBack};
 ghost use Rattle.run_ends.specs.Rows.{AreRows, CanTell, played_of};
 ghost use Rattle.run_ends.specs.Ends.{end_of};
 ghost use Rattle.run_ends.specs.Reads.{AreReads};
+ghost use Rattle.run_ends.specs.Told.{GoesAsTold};
+ghost use Rattle.node_course.specs.Moments.{tails};
 
 use crate::shown::the_log_stands;
 use journal_laws::faults::{
@@ -31,15 +31,15 @@ use journal_laws::faults::{
 };
 use legal_journal::rules::Rules;
 use log_laws::texts::what_acts_is_told;
+use node_course::joined::what_is_trimmed_was_told;
 use replica_api::replica::Replica;
-use run_course::laws::what_is_trimmed_was_told;
 
 /// Each fault that came was counted, and stands in the yard.
 pub fn the_faults_were_counted<P: Rules, S: Replica>()
     ensures { MayRun P.law → (lines : List NamedLine) (rows : List Row) (journal : List Event) (looks : List (Option Looked)) (log : List Entry) (workers : List WorkerEnd) (o : Told) (yard : Shown)
         → (h : HasClosed P.law S.state S.spells lines journal looks log workers)
         → AreRows lines workers looks rows → IsGivenBack P.law journal workers o.chain yard
-        → FaultsCame (played_of lines rows looks) h.course.faults yard }
+        → FaultsCame (played_of lines rows looks) h.run.faults yard }
 {
     lacks_are_counted();
     a_lack_has_a_fault();
@@ -57,9 +57,10 @@ pub fn what_closed_can_be_told<P: Rules, S: Replica>()
 /// Each line ended as its row says.
 pub fn each_line_has_ended<P: Rules, S: Replica>()
     ensures { MayRun P.law → (lines : List NamedLine) (rows : List Row) (journal : List Event) (looks : List (Option Looked)) (log : List Entry) (workers : List WorkerEnd)
+        → ((who : ℕ) (e : Entry) → P.law.may who e → may_of lines who e)
         → (h : HasClosed P.law S.state S.spells lines journal looks log workers)
         → AreRows lines workers looks rows
-        → AllAfter (LineEnded log h.course.tails h.course.faults (end_of lines workers h.home h.course.when)) [] (played_of lines rows looks) }
+        → AllAfter (LineEnded log (tails h.run) h.run.faults (end_of lines workers h.home h.run.when)) [] (played_of lines rows looks) }
 {
     what_acts_is_told();
 }
@@ -69,14 +70,15 @@ pub fn each_session_has_ended<P: Rules, S: Replica>()
     ensures { MayRun P.law → (lines : List NamedLine) (rows : List Row) (journal : List Event) (looks : List (Option Looked)) (log : List Entry) (workers : List WorkerEnd) (s : ℕ)
         → (h : HasClosed P.law S.state S.spells lines journal looks log workers)
         → AreRows lines workers looks rows
-        → SessionEnded (played_of lines rows looks) h.course.faults h.home s (end_of lines workers h.home h.course.when s) }
+        → SessionEnded (played_of lines rows looks) h.run.faults h.home s (end_of lines workers h.home h.run.when s) }
 {}
 
-/// Where no fault came, the chain goes from the first loglet to one as many behind it as rows tell that the last loglet was replaced.
+/// The last loglet of the chain is at least each node's number of rows that tell a version, and at most the number of all of those,
+/// where no fault came. Where nothing is trimmed each loglet up to it has a segment.
 pub fn each_segment_is_told<P: Rules, S: Replica>()
     ensures { (lines : List NamedLine) (rows : List Row) (journal : List Event) (looks : List (Option Looked)) (log : List Entry) (workers : List WorkerEnd)
-        → HasClosed P.law S.state S.spells lines journal looks log workers → AreRows lines workers looks rows → faults_in journal ≡ []
-        → GoesTo (state_of journal).register.chain (count_by (λ r. is_some (version_made r.outcome)) rows) }
+        → HasClosed P.law S.state S.spells lines journal looks log workers → AreRows lines workers looks rows
+        → GoesAsTold (played_of lines rows looks) rows (length workers) (faults_in journal) (state_of journal).register.chain }
 {}
 
 /// A run whose nodes have closed has ended.

@@ -7,7 +7,7 @@ ghost use Rattle.engine_api.specs.Packing.{packed, session_item, alive_item, lea
 ghost use Rattle.engine_api.specs.Acted.{Asked, asked_in};
 ghost use Rattle.turn_scopes.specs.Floors.{MayTrim, FloorIs};
 ghost use Rattle.node_lines.specs.Workers.{IsHome, MayRun};
-ghost use Rattle.run_course.specs.Script.{AreLines};
+ghost use Rattle.node_course.specs.Script.{AreLines};
 ghost use Rattle.script_text.specs.declared.asks.NamedLine.{NamedLine};
 ghost use Rattle.script_text.specs.declared.line.Session.{Session};
 ghost use Rattle.script_text.specs.declared.line.Admin.TheVariants.{Alive, Retire, Trim};

@@ -33,7 +33,7 @@ use Rattle.fitting_run.specs.declared.told.Told.{Told}
 use Rattle.fitting_run.specs.Answered.{is_open, session_asking}
 use Rattle.fitting_run.specs.Outcomes.{is_row_of}
 use Rattle.fitting_run.specs.Lines.{logs_for, are_ranked, are_in_phase}
-use Rattle.fitting_run.specs.Replacements.{version_made, begins_at}
+use Rattle.fitting_run.specs.Replacements.{version_told, begins_at}
 use Rattle.fitting_run.specs.Reports.{items_of}
 use Rattle.fitting_run.specs.Yard.{Shown}
 use Rattle.fitting_run.specs.Faults.{stands, lacks_of, faults_of, disk_faults, lacks_quorum, finds_full, lacks_register, lacks_store}
@@ -212,12 +212,19 @@ IsAtHome home node (asks.Logged s r c) = node ≡ home s.id
 IsAtHome home node (asks.Look s q) = node ≡ home s.id
 IsAtHome home node (asks.Admin a) = Unit {0}
 
+-- a played line that is so, with its row
+pub record SomeTurn (played : List Played) (P : Played → Type 0) : Type 0 where
+  pub at : ℕ
+  pub turn : Played
+  pub is : slice_get played at ≡ Some turn
+  pub so : P turn
+
 -- Replacements of the loglet
 
--- what the chain at the end has of a row; no line found a replacement that wasn't its own
+-- what the chain at the end has of a row
 abbrev pub IsReplaced : ℕ → Chain → ℕ → Outcome → Type 0
 IsReplaced version chain shelf (out.Extended v s) = (v ≤ version) × (begins_at chain s ≡ true)
-IsReplaced version chain shelf (out.Moved v) = ⊥
+IsReplaced version chain shelf (out.Moved v) = v ≤ version
 IsReplaced version chain shelf out.NoSpare = last_id chain + 1 ≡ shelf
 IsReplaced version chain shelf answered = Unit {0}
 
@@ -229,16 +236,31 @@ IsApart answered other = Unit {0}
 -- rows of two lines, the first of an earlier phase than the other, or of an earlier line of the same node
 abbrev pub Precedes : Outcome → Outcome → Type 0
 Precedes (out.Extended v s) (out.Extended w r) = v < w
+Precedes (out.Extended v s) (out.Moved w) = v < w
+Precedes (out.Moved v) (out.Extended w r) = v < w
+Precedes (out.Moved v) (out.Moved w) = v < w
 Precedes out.NoSpare (out.Extended w r) = ⊥
+Precedes out.NoSpare (out.Moved w) = ⊥
 Precedes answered other = Unit {0}
+
+-- the line is the node's, and its row tells the version of a chain
+abbrev pub tells_version : ℕ → Played → Bool
+tells_version node t = (t.line.node == node) && is_some (version_told t.row.outcome)
+
+-- u is another node's line, in the phase of t
+pub record IsBeside (t u : Played) : Type 0 where
+  pub phase_is : u.line.phase ≡ t.line.phase
+  pub another : u.line.node ≢ t.line.node
 
 pub record Replacements (played : List Played) (version : ℕ) (chain : Chain) (shelf : ℕ) : Type 0 where
   pub each : (i : ℕ) (t : Played) → slice_get played i ≡ Some t → IsReplaced version chain shelf t.row.outcome
-  -- each replacement took an id of its own
-  pub ids : count_by (λ t. is_some (version_made t.row.outcome)) played ≤ last_id chain
+  -- each that a node made, or found, took an id of its own
+  pub ids : (i : ℕ) (t : Played) → slice_get played i ≡ Some t → count_by (tells_version t.line.node) played ≤ last_id chain
   pub apart : (i j : ℕ) (t u : Played) → slice_get played i ≡ Some t → slice_get played j ≡ Some u → i < j → IsApart t.row.outcome u.row.outcome
   pub order : (i j : ℕ) (t u : Played) → slice_get played i ≡ Some t → slice_get played j ≡ Some u → i < j
       → (t.line.phase < u.line.phase) ⊎ (t.line.node ≡ u.line.node) → Precedes t.row.outcome u.row.outcome
+  -- what a line found another node had made, in the line's phase; the first chain nobody had
+  pub found : (i : ℕ) (t : Played) (version : ℕ) → slice_get played i ≡ Some t → t.row.outcome ≡ out.Moved version → (2 ≤ version) × SomeTurn played (IsBeside t)
 
 -- Trims
 
@@ -247,13 +269,6 @@ abbrev pub StandsFrom : ℕ → Outcome → Type 0
 StandsFrom n (out.Placed place reply late) = n ≤ place.pos
 StandsFrom n (out.Read after found) = n ≤ after
 StandsFrom n answered = Unit {0}
-
--- a played line that is so, with its row
-pub record SomeTurn (played : List Played) (P : Played → Type 0) : Type 0 where
-  pub at : ℕ
-  pub turn : Played
-  pub is : slice_get played at ≡ Some turn
-  pub so : P turn
 
 -- the row isn't that of a node that left, and reports no more than this
 abbrev pub TellsUpto : ℕ → Outcome → Type 0

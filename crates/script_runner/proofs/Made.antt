@@ -1,9 +1,9 @@
 -- What came of a script that was made, by the laws of made scripts and of totals.
-use Rattle.std.proofs.Common.{◌≡◌, refl, sym, ap, ◌∙◌, subst, ℕ, zero, suc, pos, negsuc, ◌+◌, ◌<◌, ◌≤◌, ◌/◌, ◌==◌, Bool, true, false, cond, List, [], ◌∷◌, length, min, map, arith, zero-add, Option, Some, None}
-use Rattle.std.specs.Prelude.{count_by, is_some, not, ◌&&◌, ◌||◌, filter, fold, ◌+ℤ◌, All, sum_by, IfSome}
+use Rattle.std.proofs.Common.{◌≡◌, refl, sym, ap, ◌∙◌, subst, ℕ, zero, suc, pos, negsuc, ◌+◌, ◌<◌, ◌≤◌, ◌==◌, Bool, true, false, cond, List, [], ◌∷◌, length, min, map, arith, zero-add, Option, Some, None, inl, inr, eq-eqb, leb-true}
+use Rattle.std.specs.Prelude.{count_by, is_some, ◌&&◌, ◌||◌, filter, fold, ◌+ℤ◌, All, sum_by, IfSome}
 use Rattle.std.specs.List.{AllByRecursion, list_all, list_any, zip}
 use Rattle.std.proofs.lemmas.Int.{ints}
-use Rattle.std.proofs.lemmas.Bool.{and_parts}
+use Rattle.std.proofs.lemmas.Bool.{and_parts, both_ways, cases_lt}
 use Rattle.std.proofs.lemmas.Bool.Decides.{nat_tests}
 use Rattle.std.proofs.lemmas.List.Sums.{sum_by-cons}
 use Rattle.delos_types.specs.declared.chain.Segment.{Segment}
@@ -27,18 +27,18 @@ use Rattle.fitting_run.specs.declared.told.Told.{Told}
 use Rattle.fitting_run.specs.Tests.{◌⇒◌}
 use Rattle.fitting_run.specs.declared.answered.Answered.{Answered}
 use Rattle.fitting_run.specs.Answered.{logs, has_row}
-use Rattle.fitting_run.specs.Outcomes.{OneRowEach, answers, is_row_of}
+use Rattle.fitting_run.specs.Outcomes.{answers, is_row_of}
 use Rattle.engine_api.specs.Order.{numbers}
 use Rattle.fitting_run.specs.Trims.{asks_to_trim, is_asked_for, is_to_let_go}
-use Rattle.fitting_run.specs.Replacements.{version_made, version_found, lacks_spare, is_spent}
+use Rattle.fitting_run.specs.Replacements.{version_told, versions_at, has_ids, lacks_spare, is_spent}
 use Rattle.fitting_run.specs.Calm.{IsCalm, is_answered, all_answered}
 use Rattle.fitting_run.specs.Yard.{Shown}
 use Rattle.fitting_run.specs.Fits.{Fits}
-use Rattle.made_script.specs.Made.{made_lines, amounts}
+use Rattle.made_script.specs.Made.{made_lines}
 use Rattle.made_script.specs.Asked.{logs_something, extends, asks_to_extend, added, added_by, AddsOrExtends}
-use Rattle.run_totals.specs.Totals.{commands_in, acted_in, table_told, sum_of_table}
+use Rattle.run_totals.specs.Totals.{commands_in, acted_in}
 use Rattle.run_totals.specs.Adds.{amounts_in, amount_asked, AsksSmallAdd, AreSmallAdds}
-use Rattle.fitting_run.specs.Calm.{GoesTo}
+use Rattle.crew_run.specs.Telling.{GoesByRows}
 use Rattle.script_runner.specs.declared.ended.Status.{Status}
 use Rattle.script_runner.specs.declared.ended.Status.TheVariants as status
 use Rattle.script_runner.specs.Ends.{Ran, ComesFrom, any_open, Composes}
@@ -46,6 +46,7 @@ use Rattle.script_runner.specs.Made.{CountsMade, lines_made}
 use Rattle.made_script.proofs.Asking.{count-logged, count-extends, sum-added, all-made}
 use Rattle.run_totals.proofs.Whole.{answered-acts}
 use Rattle.run_totals.proofs.Amounts.{whole-sum}
+use Rattle.script_runner.proofs.Extending.{IsOfFirst, all-first}
 use Rattle.script_runner.proofs.ScriptLines.{count_by-append, all_ranked}
 
 -- The same lines are counted
@@ -111,8 +112,8 @@ adds_all lines h = adds_from 0 lines h ∙ ap (λ k. pos k) (zero-add (sum_by ad
 
 -- Lines that extend the chain
 
-abbrev has_made : Row → Bool
-has_made r = is_some (version_made r.outcome)
+abbrev has_told : Row → Bool
+has_told r = is_some (version_told r.outcome)
 
 abbrev has_spent : Row → Bool
 has_spent r = lacks_spare r.outcome
@@ -132,63 +133,62 @@ every_row : (lines : List NamedLine) → filter (λ l. has_row l.asks) lines ≡
 every_row [] = refl
 every_row (l ∷ ls) = first_row l ls (every_row ls)
 
--- a line that extends was answered by a segment more, or found no loglet to spare
-one_row : (a : Asks) (o : Outcome) → answers a o ≡ true → is_answered o ≡ true → not (is_some (version_found o)) ≡ true
-    → cond (asks_to_extend a) 1 0 ≡ cond (is_some (version_made o)) 1 0 + cond (lacks_spare o) 1 0
-one_row (asks.Logged t r d) (out.Placed p reply late) kind own lone = refl
-one_row (asks.Logged t r d) (out.Read after found) kind own lone = absurd cc
-one_row (asks.Logged t r d) (out.Extended v s) kind own lone = absurd cc
-one_row (asks.Logged t r d) (out.Moved v) kind own lone = absurd cc
-one_row (asks.Logged t r d) out.NoSpare kind own lone = absurd cc
-one_row (asks.Logged t r d) (out.Alive n) kind own lone = absurd cc
-one_row (asks.Logged t r d) (out.Trimmed n) kind own lone = absurd cc
-one_row (asks.Logged t r d) out.Retired kind own lone = absurd cc
-one_row (asks.Logged t r d) (out.Open c) kind own lone = absurd cc
-one_row (asks.Look t q) (out.Placed p reply late) kind own lone = absurd cc
-one_row (asks.Look t q) (out.Read after found) kind own lone = refl
-one_row (asks.Look t q) (out.Extended v s) kind own lone = absurd cc
-one_row (asks.Look t q) (out.Moved v) kind own lone = absurd cc
-one_row (asks.Look t q) out.NoSpare kind own lone = absurd cc
-one_row (asks.Look t q) (out.Alive n) kind own lone = absurd cc
-one_row (asks.Look t q) (out.Trimmed n) kind own lone = absurd cc
-one_row (asks.Look t q) out.Retired kind own lone = absurd cc
-one_row (asks.Look t q) (out.Open c) kind own lone = absurd cc
-one_row (asks.Admin Extend) (out.Placed p reply late) kind own lone = absurd cc
-one_row (asks.Admin Extend) (out.Read after found) kind own lone = absurd cc
-one_row (asks.Admin Extend) (out.Extended v s) kind own lone = refl
-one_row (asks.Admin Extend) (out.Moved v) kind own lone = absurd cc
-one_row (asks.Admin Extend) out.NoSpare kind own lone = refl
-one_row (asks.Admin Extend) (out.Alive n) kind own lone = absurd cc
-one_row (asks.Admin Extend) (out.Trimmed n) kind own lone = absurd cc
-one_row (asks.Admin Extend) out.Retired kind own lone = absurd cc
-one_row (asks.Admin Extend) (out.Open c) kind own lone = absurd cc
-one_row (asks.Admin Alive) (out.Placed p reply late) kind own lone = absurd cc
-one_row (asks.Admin Alive) (out.Read after found) kind own lone = absurd cc
-one_row (asks.Admin Alive) (out.Extended v s) kind own lone = absurd cc
-one_row (asks.Admin Alive) (out.Moved v) kind own lone = absurd cc
-one_row (asks.Admin Alive) out.NoSpare kind own lone = absurd cc
-one_row (asks.Admin Alive) (out.Alive n) kind own lone = refl
-one_row (asks.Admin Alive) (out.Trimmed n) kind own lone = absurd cc
-one_row (asks.Admin Alive) out.Retired kind own lone = absurd cc
-one_row (asks.Admin Alive) (out.Open c) kind own lone = absurd cc
-one_row (asks.Admin Retire) (out.Placed p reply late) kind own lone = absurd cc
-one_row (asks.Admin Retire) (out.Read after found) kind own lone = absurd cc
-one_row (asks.Admin Retire) (out.Extended v s) kind own lone = absurd cc
-one_row (asks.Admin Retire) (out.Moved v) kind own lone = absurd cc
-one_row (asks.Admin Retire) out.NoSpare kind own lone = absurd cc
-one_row (asks.Admin Retire) (out.Alive n) kind own lone = absurd cc
-one_row (asks.Admin Retire) (out.Trimmed n) kind own lone = absurd cc
-one_row (asks.Admin Retire) out.Retired kind own lone = refl
-one_row (asks.Admin Retire) (out.Open c) kind own lone = absurd cc
-one_row (asks.Admin Trim) (out.Placed p reply late) kind own lone = absurd cc
-one_row (asks.Admin Trim) (out.Read after found) kind own lone = absurd cc
-one_row (asks.Admin Trim) (out.Extended v s) kind own lone = absurd cc
-one_row (asks.Admin Trim) (out.Moved v) kind own lone = absurd cc
-one_row (asks.Admin Trim) out.NoSpare kind own lone = absurd cc
-one_row (asks.Admin Trim) (out.Alive n) kind own lone = absurd cc
-one_row (asks.Admin Trim) (out.Trimmed n) kind own lone = refl
-one_row (asks.Admin Trim) out.Retired kind own lone = absurd cc
-one_row (asks.Admin Trim) (out.Open c) kind own lone = absurd cc
+-- a line that extends was answered by a version of the chain, or found no loglet to spare
+one_row : (a : Asks) (o : Outcome) → answers a o ≡ true → is_answered o ≡ true → once (asks_to_extend a) ≡ once (is_some (version_told o)) + once (lacks_spare o)
+one_row (asks.Logged t r d) (out.Placed p reply late) kind own = refl
+one_row (asks.Logged t r d) (out.Read after found) kind own = absurd cc
+one_row (asks.Logged t r d) (out.Extended v s) kind own = absurd cc
+one_row (asks.Logged t r d) (out.Moved v) kind own = absurd cc
+one_row (asks.Logged t r d) out.NoSpare kind own = absurd cc
+one_row (asks.Logged t r d) (out.Alive n) kind own = absurd cc
+one_row (asks.Logged t r d) (out.Trimmed n) kind own = absurd cc
+one_row (asks.Logged t r d) out.Retired kind own = absurd cc
+one_row (asks.Logged t r d) (out.Open c) kind own = absurd cc
+one_row (asks.Look t q) (out.Placed p reply late) kind own = absurd cc
+one_row (asks.Look t q) (out.Read after found) kind own = refl
+one_row (asks.Look t q) (out.Extended v s) kind own = absurd cc
+one_row (asks.Look t q) (out.Moved v) kind own = absurd cc
+one_row (asks.Look t q) out.NoSpare kind own = absurd cc
+one_row (asks.Look t q) (out.Alive n) kind own = absurd cc
+one_row (asks.Look t q) (out.Trimmed n) kind own = absurd cc
+one_row (asks.Look t q) out.Retired kind own = absurd cc
+one_row (asks.Look t q) (out.Open c) kind own = absurd cc
+one_row (asks.Admin Extend) (out.Placed p reply late) kind own = absurd cc
+one_row (asks.Admin Extend) (out.Read after found) kind own = absurd cc
+one_row (asks.Admin Extend) (out.Extended v s) kind own = refl
+one_row (asks.Admin Extend) (out.Moved v) kind own = refl
+one_row (asks.Admin Extend) out.NoSpare kind own = refl
+one_row (asks.Admin Extend) (out.Alive n) kind own = absurd cc
+one_row (asks.Admin Extend) (out.Trimmed n) kind own = absurd cc
+one_row (asks.Admin Extend) out.Retired kind own = absurd cc
+one_row (asks.Admin Extend) (out.Open c) kind own = absurd cc
+one_row (asks.Admin Alive) (out.Placed p reply late) kind own = absurd cc
+one_row (asks.Admin Alive) (out.Read after found) kind own = absurd cc
+one_row (asks.Admin Alive) (out.Extended v s) kind own = absurd cc
+one_row (asks.Admin Alive) (out.Moved v) kind own = absurd cc
+one_row (asks.Admin Alive) out.NoSpare kind own = absurd cc
+one_row (asks.Admin Alive) (out.Alive n) kind own = refl
+one_row (asks.Admin Alive) (out.Trimmed n) kind own = absurd cc
+one_row (asks.Admin Alive) out.Retired kind own = absurd cc
+one_row (asks.Admin Alive) (out.Open c) kind own = absurd cc
+one_row (asks.Admin Retire) (out.Placed p reply late) kind own = absurd cc
+one_row (asks.Admin Retire) (out.Read after found) kind own = absurd cc
+one_row (asks.Admin Retire) (out.Extended v s) kind own = absurd cc
+one_row (asks.Admin Retire) (out.Moved v) kind own = absurd cc
+one_row (asks.Admin Retire) out.NoSpare kind own = absurd cc
+one_row (asks.Admin Retire) (out.Alive n) kind own = absurd cc
+one_row (asks.Admin Retire) (out.Trimmed n) kind own = absurd cc
+one_row (asks.Admin Retire) out.Retired kind own = refl
+one_row (asks.Admin Retire) (out.Open c) kind own = absurd cc
+one_row (asks.Admin Trim) (out.Placed p reply late) kind own = absurd cc
+one_row (asks.Admin Trim) (out.Read after found) kind own = absurd cc
+one_row (asks.Admin Trim) (out.Extended v s) kind own = absurd cc
+one_row (asks.Admin Trim) (out.Moved v) kind own = absurd cc
+one_row (asks.Admin Trim) out.NoSpare kind own = absurd cc
+one_row (asks.Admin Trim) (out.Alive n) kind own = absurd cc
+one_row (asks.Admin Trim) (out.Trimmed n) kind own = refl
+one_row (asks.Admin Trim) out.Retired kind own = absurd cc
+one_row (asks.Admin Trim) (out.Open c) kind own = absurd cc
 
 -- the lines with their rows
 abbrev pair_of : NamedLine × Row → Answered
@@ -197,22 +197,86 @@ pair_of x = record { line = x.0; row = x.1 }
 abbrev pairs : List NamedLine → List Row → List Answered
 pairs lines rows = map pair_of (zip lines rows)
 
-abbrev unmoved : List Row → Bool
-unmoved rows = list_all (λ r. not (is_some (version_found r.outcome))) rows
-
-tally : (lines : List NamedLine) (rows : List Row) → length rows ≡ length lines → list_all is_row_of (pairs lines rows) ≡ true → all_answered rows ≡ true → unmoved rows ≡ true
-    → count_by extends lines ≡ count_by has_made rows + count_by has_spent rows
-tally [] [] size kinds own lone = refl
-tally [] (r ∷ rs) size kinds own lone = absurd (omega (arith, size))
-tally (l ∷ ls) [] size kinds own lone = absurd (omega (arith, size))
-tally (l ∷ ls) (r ∷ rs) size kinds own lone =
+tally : (lines : List NamedLine) (rows : List Row) → length rows ≡ length lines → list_all is_row_of (pairs lines rows) ≡ true → all_answered rows ≡ true → count_by extends lines ≡ count_by has_told rows + count_by has_spent rows
+tally [] [] size kinds own = refl
+tally [] (r ∷ rs) size kinds own = absurd (omega (arith, size))
+tally (l ∷ ls) [] size kinds own = absurd (omega (arith, size))
+tally (l ∷ ls) (r ∷ rs) size kinds own =
     let row = and_parts (is_row_of (pair_of (l, r))) (list_all is_row_of (pairs ls rs)) kinds in
     let mine = and_parts (is_answered r.outcome) (all_answered rs) own in
-    let still = and_parts (not (is_some (version_found r.outcome))) (unmoved rs) lone in
     let kind = (and_parts _ (answers l.asks r.outcome) row.0).1 in
-    let here = one_row l.asks r.outcome kind mine.0 still.0 in
-    let rest = tally ls rs (omega (arith, size)) row.1 mine.1 still.1 in
-    omega (arith, here, rest, sum_by-cons (λ x. cond (extends x) 1 0) l ls, sum_by-cons (λ x. cond (has_made x) 1 0) r rs, sum_by-cons (λ x. cond (has_spent x) 1 0) r rs)
+    let here = one_row l.asks r.outcome kind mine.0 in
+    let rest = tally ls rs (omega (arith, size)) row.1 mine.1 in
+    omega (arith, here, rest, sum_by-cons (λ x. cond (extends x) 1 0) l ls, sum_by-cons (λ x. cond (has_told x) 1 0) r rs, sum_by-cons (λ x. cond (has_spent x) 1 0) r rs)
+
+-- Only rows of the first node tell a version
+
+abbrev tells_version : Answered → Bool
+tells_version a = is_some (version_told a.row.outcome)
+
+-- if it tells a version, it is of a line of the first node
+abbrev TellsFirst : Answered → Type 0
+TellsFirst a = tells_version a ≡ true → a.line.node ≡ 1
+
+first_pair : (l : NamedLine) (r : Row) → once (extends l) ≡ once (has_told r) + once (has_spent r) → IsOfFirst l → TellsFirst (pair_of (l, r))
+first_pair l r sum first told = by (extends l) refl
+  where
+    by : (b : Bool) → extends l ≡ b → l.node ≡ 1
+    by true is = first is
+    by false is = absurd (let none = one (extends l) false is in let some = one (has_told r) true told in omega (arith, sum, none, some))
+
+first_pairs : (lines : List NamedLine) (rows : List Row) → list_all is_row_of (pairs lines rows) ≡ true → all_answered rows ≡ true → AllByRecursion IsOfFirst lines → AllByRecursion TellsFirst (pairs lines rows)
+first_pairs [] rows kinds own first = tt
+first_pairs (l ∷ ls) [] kinds own first = tt
+first_pairs (l ∷ ls) (r ∷ rs) kinds own first =
+    let row = and_parts (is_row_of (pair_of (l, r))) (list_all is_row_of (pairs ls rs)) kinds in
+    let mine = and_parts (is_answered r.outcome) (all_answered rs) own in
+    let kind = (and_parts _ (answers l.asks r.outcome) row.0).1 in
+    (first_pair l r (one_row l.asks r.outcome kind mine.0) first.0, first_pairs ls rs row.1 mine.1 first.1)
+
+told_pairs : (lines : List NamedLine) (rows : List Row) → length rows ≡ length lines → count_by has_told rows ≡ count_by tells_version (pairs lines rows)
+told_pairs [] [] size = refl
+told_pairs [] (r ∷ rs) size = absurd (omega (arith, size))
+told_pairs (l ∷ ls) [] size = absurd (omega (arith, size))
+told_pairs (l ∷ ls) (r ∷ rs) size =
+    let rest = told_pairs ls rs (omega (arith, size)) in
+    omega (arith, rest, sum_by-cons (λ x. cond (has_told x) 1 0) r rs, sum_by-cons (λ x. cond (tells_version x) 1 0) (pair_of (l, r)) (pairs ls rs))
+
+both_first : (t b : Bool) → (t ≡ true → b ≡ true) → once t ≡ once (b && t)
+both_first true true h = refl
+both_first true false h = absurd (both_ways false refl (h refl))
+both_first false true h = refl
+both_first false false h = refl
+
+count_first : (xs : List Answered) → AllByRecursion TellsFirst xs → count_by tells_version xs ≡ versions_at 1 xs
+count_first [] first = refl
+count_first (a ∷ xs) first =
+    let here = both_first (tells_version a) (a.line.node == 1) (λ is. eq-eqb a.line.node 1 (first.0 is)) in
+    let rest = count_first xs first.1 in
+    omega (arith, here, rest, sum_by-cons (λ x. cond (tells_version x) 1 0) a xs, sum_by-cons (λ x. cond ((x.line.node == 1) && tells_version x) 1 0) a xs)
+
+-- where some row tells one, the last loglet lies as far as rows of the first node say
+ids_first : (chain : Chain) (told xs : List Answered) → AllByRecursion TellsFirst xs → list_all (has_ids chain told) xs ≡ true → 0 < count_by tells_version xs → versions_at 1 told ≤ last_id chain
+ids_first chain told [] first ids some = absurd (omega (arith, some))
+ids_first chain told (a ∷ xs) first ids some =
+    let both = and_parts (has_ids chain told a) (list_all (has_ids chain told) xs) ids in
+    by (tells_version a) refl both.0
+    (λ is. let none = one (tells_version a) false is in
+    ids_first chain told xs first.1 both.1 (omega (arith, some, none, sum_by-cons (λ x. cond (tells_version x) 1 0) a xs)))
+  where
+    by : (t : Bool) → tells_version a ≡ t → has_ids chain told a ≡ true → (tells_version a ≡ false → versions_at 1 told ≤ last_id chain) → versions_at 1 told ≤ last_id chain
+    by true is here rest = subst (λ n. versions_at n told ≤ last_id chain) (first.0 is) (leb-true (versions_at a.line.node told) (last_id chain) here)
+    by false is here rest = rest is
+
+-- so it lies as far as all rows say
+told_low : (chain : Chain) (lines : List NamedLine) (rows : List Row) → length rows ≡ length lines → AllByRecursion TellsFirst (pairs lines rows) → list_all (has_ids chain (pairs lines rows)) (pairs lines rows) ≡ true → count_by has_told rows ≤ last_id chain
+told_low chain lines rows size first ids =
+    let same = told_pairs lines rows size in
+    let all = count_first (pairs lines rows) first in
+    elim (cases_lt 0 (count_by tells_version (pairs lines rows))) [
+      | inl some ↦ (let low = ids_first chain (pairs lines rows) (pairs lines rows) first ids some in omega (arith, same, all, low))
+      | inr none ↦ omega (arith, same, none)
+    ]
 
 -- where a line found no loglet to spare, the last segment is of the last one
 spent_first : (chain : Chain) (shelf : ℕ) (x : Bool) → (x ⇒ (last_id chain + 1 == shelf)) ≡ true → (once x ≡ 0 → last_id chain + 1 ≡ shelf) → last_id chain + 1 ≡ shelf
@@ -235,9 +299,9 @@ last_within n [] all some = absurd (omega (arith, some))
 last_within n (s ∷ []) all some = all.0
 last_within n (s ∷ t ∷ ts) all some = last_within n (t ∷ ts) all.1 (omega arith)
 
-least_is : (g shelf made found_none all last : ℕ) → g ≡ made + 1 → last ≡ made → last < shelf → all ≡ made + found_none → (0 < found_none → last + 1 ≡ shelf) → g ≡ min shelf (1 + all)
-least_is g shelf made zero all last size is low sum none = omega (arith, size, is, low, sum)
-least_is g shelf made (suc k) all last size is low sum none = let full = none (omega arith) in omega (arith, size, is, low, sum, full)
+least_is : (g shelf told found_none all last : ℕ) → g ≡ last + 1 → last ≡ told → last < shelf → all ≡ told + found_none → (0 < found_none → last + 1 ≡ shelf) → g ≡ min shelf (1 + all)
+least_is g shelf told zero all last size is low sum none = omega (arith, size, is, low, sum)
+least_is g shelf told (suc k) all last size is low sum none = let full = none (omega arith) in omega (arith, size, is, low, sum, full)
 
 -- a line of a made script asks for no trim
 no_trim : (a : Asks) → AddsOrExtends a → asks_to_trim a ≡ false
@@ -265,17 +329,21 @@ untrimmed lines nodes trim each asked = by (trim == 0) refl
         absurd (let t : true ≡ false = sym parts.0 ∙ none in cc)
 
 -- where every line has its own answer, each line that extends the chain did, until the shelf had no loglet left
-segments_made : (lines : List NamedLine) (told : Told) (yard : Shown) (shelf : ℕ) → AllByRecursion (λ l. AddsOrExtends l.asks) lines → length yard.cells ≡ shelf → Fits lines told yard → all_answered told.rows ≡ true → unmoved told.rows ≡ true
-    → GoesTo told.chain (count_by has_made told.rows) → All (λ s. s.id < length yard.cells) told.chain.segments → length told.chain.segments ≡ min shelf (1 + count_by extends lines)
-segments_made lines told yard shelf each cells fits own lone goes within =
+segments_made : (lines : List NamedLine) (told : Told) (yard : Shown) (shelf : ℕ) → AllByRecursion (λ l. AddsOrExtends l.asks) lines → AllByRecursion IsOfFirst lines → length yard.cells ≡ shelf → Fits lines told yard → all_answered told.rows ≡ true
+    → GoesByRows told.chain told.rows → All (λ s. s.id < length yard.cells) told.chain.segments → length told.chain.segments ≡ min shelf (1 + count_by extends lines)
+segments_made lines told yard shelf each first cells fits own goes within =
     let grown = goes.segments (untrimmed lines (length yard.disks) told.chain.trim each fits.trims.asked) in
     let size : length told.rows ≡ length lines = fits.one_row_each.as_many ∙ ap length (every_row lines) in
     let kinds : list_all is_row_of (pairs lines told.rows) ≡ true = subst (λ (ls : List NamedLine). list_all is_row_of (pairs ls told.rows) ≡ true) (every_row lines) fits.one_row_each.each in
     let full : list_all (is_spent told.chain (length yard.cells)) (pairs lines told.rows) ≡ true =
     subst (λ (ls : List NamedLine). list_all (is_spent told.chain (length yard.cells)) (pairs ls told.rows) ≡ true) (every_row lines) fits.replacements.last in
+    let ids : list_all (has_ids told.chain (pairs lines told.rows)) (pairs lines told.rows) ≡ true =
+    subst (λ (ls : List NamedLine). list_all (has_ids told.chain (pairs ls told.rows)) (pairs ls told.rows) ≡ true) (every_row lines) fits.replacements.ids in
+    let least = told_low told.chain lines told.rows size (first_pairs lines told.rows kinds own first) ids in
+    let most = goes.most in
     let low = last_within (length yard.cells) told.chain.segments (all_from (λ s. s.id < length yard.cells) told.chain.segments within) (omega (arith, grown)) in
-    least_is (length told.chain.segments) shelf (count_by has_made told.rows) (count_by has_spent told.rows) (count_by extends lines) (last_id told.chain)
-    grown goes.last (omega (arith, low, cells)) (tally lines told.rows size kinds own lone)
+    least_is (length told.chain.segments) shelf (count_by has_told told.rows) (count_by has_spent told.rows) (count_by extends lines) (last_id told.chain)
+    grown (omega (arith, least, most)) (omega (arith, low, cells, grown)) (tally lines told.rows size kinds own)
     (λ some. spent told.chain (length yard.cells) lines told.rows size full some ∙ cells)
 
 -- All of it
@@ -302,7 +370,8 @@ counts_made plan count left yard told make ran =
     let few = subst IsTask make ran.plan_is.task in
     let lines : lines_of ran.script ≡ lines_made plan count = ap lines_of comes.1 in
     counts_lines plan count yard told few.1 (subst (λ ls. Fits ls told yard) lines ran.fits)
-    (λ calm. segments_made (lines_of ran.script) told yard (length plan.shelf) (subst (AllByRecursion (λ (l : NamedLine). AddsOrExtends l.asks)) (sym lines) (all_from (λ (l : NamedLine). AddsOrExtends l.asks) (lines_made plan count) (all-made plan.seed count plan.nodes))) ran.shelf ran.fits (ran.answered calm) ran.lone (ran.extended calm) ran.shelved
+    (λ calm. segments_made (lines_of ran.script) told yard (length plan.shelf) (subst (AllByRecursion (λ (l : NamedLine). AddsOrExtends l.asks)) (sym lines) (all_from (λ (l : NamedLine). AddsOrExtends l.asks) (lines_made plan count) (all-made plan.seed count plan.nodes)))
+    (subst (AllByRecursion IsOfFirst) (sym lines) (all_from IsOfFirst (lines_made plan count) (all-first plan.seed count plan.nodes))) ran.shelf ran.fits (ran.answered calm) (ran.extended calm) ran.shelved
     ∙ ap (λ ls. min (length plan.shelf) (1 + count_by extends ls)) lines)
 
 of_plan : (plan : Plan) (left : Option (List ℕ)) (yard : Shown) (told : Told) → Ran plan left yard told → (p : Plan) (count : ℕ) → Some plan ≡ Some p → p.task ≡ task.Make count → CountsMade p count yard told

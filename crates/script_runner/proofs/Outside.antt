@@ -65,7 +65,7 @@ composes-script : (plan : Plan) (left : Option (List ℕ)) (yard : Shown) (c : C
 composes-script plan left yard c bytes script sound comes read run = decide (any_open run.told.rows) refl
   where
     ran : Ran plan left yard run.told
-    ran = record { plan_is = sound; bytes = bytes; script = script; comes = comes; spelled = read; fits = run.ran.fits; answered = run.ran.answered; whole = run.ran.whole; extended = run.ran.extended; lone = run.ran.lone; shelved = run.ran.shelved; shelf = run.shelf }
+    ran = record { plan_is = sound; bytes = bytes; script = script; comes = comes; spelled = read; fits = run.ran.fits; answered = run.ran.answered; whole = run.ran.whole; extended = run.ran.extended; shelved = run.ran.shelved; shelf = run.shelf }
 
     -- it ended with this status
     ends : (s : Status) → status_of run.told ≡ s → c.end ≡ record { status = s; told = Some run.told; refused = None }

@@ -19,7 +19,7 @@ use Rattle.script_text.specs.Spelling.{IsScript, SpellsFrom, CommandFits, is_pri
 use Rattle.script_text.specs.Lines.{lines_of, lines_after, named_after, is_logged_by, is_barrier}
 use Rattle.fitting_run.specs.Lines.{logs_for, are_ranked, are_in_phase, CanLog}
 use Rattle.fitting_run.proofs.Leaving.{none-retired}
-use Rattle.run_course.specs.Script.{AreLines}
+use Rattle.node_course.specs.Script.{AreLines}
 use Rattle.script_runner.specs.Playing.{CanPlay}
 use Rattle.script_runner.proofs.Homes.{script_homes, home_at, home_low, all_home, all_within, all_known}
 

@@ -1,5 +1,5 @@
 -- What stands over a yard once a run has ended.
-use Rattle.std.proofs.Common.{◌≡◌, ◌≢◌, ◌∙◌, ℕ, Bool, true, false, List, take, Option, Some, None, Err, refl, sym, ap, subst, inl, inr}
+use Rattle.std.proofs.Common.{◌≡◌, ◌≢◌, ◌∙◌, ℕ, true, false, List, take, Option, Some, None, Err, refl, sym, ap, subst, inl, inr}
 use Rattle.std.specs.Prelude.{IfSome, IsSomeAnd, is_ok, ◌⊎◌}
 use Rattle.outside_ends.specs.Sinks.{Gains}
 use Rattle.outside_ends.specs.Whole.{GainsFront}

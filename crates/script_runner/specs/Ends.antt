@@ -1,6 +1,6 @@
 -- How a run ends: what stands behind each status.
-use Rattle.std.specs.Prelude.{◌≡◌, ◌<◌, ℕ, Bool, true, false, not, List, length, count_by, All, Option, Some, None, is_some, IfSome, IsSomeAnd, Err, IsOk, map, take}
-use Rattle.std.specs.List.{list_all, list_any}
+use Rattle.std.specs.Prelude.{◌≡◌, ◌<◌, ℕ, Bool, true, false, List, length, All, Option, Some, None, IfSome, IsSomeAnd, Err, IsOk, map, take}
+use Rattle.std.specs.List.{list_any}
 use Rattle.fabric_core.specs.Log.{virtual_tail}
 use Rattle.outside_ends.specs.Sinks.{Gains}
 use Rattle.outside_ends.specs.Whole.{GainsFront}
@@ -27,8 +27,8 @@ use Rattle.script_runner.specs.declared.ended.Status.TheVariants as status
 use Rattle.fitting_run.specs.Answered.{is_open}
 use Rattle.fitting_run.specs.Yard.{Shown}
 use Rattle.fitting_run.specs.Fits.{Fits}
-use Rattle.fitting_run.specs.Replacements.{version_made, version_found}
-use Rattle.fitting_run.specs.Calm.{IsCalm, GoesTo, all_answered}
+use Rattle.fitting_run.specs.Calm.{IsCalm, all_answered}
+use Rattle.crew_run.specs.Telling.{GoesByRows}
 
 -- how many bytes of a source are read at most: one more than a script may have
 abbrev pub read_limit : ℕ
@@ -44,8 +44,8 @@ ComesFrom task.Run plan left bytes script = IfSome left (λ all. all ≡ bytes)
 ComesFrom (task.Make count) plan left bytes script = (bytes ≡ made_text plan.seed count plan.nodes) × (script ≡ made_lines plan.seed count plan.nodes)
 
 -- The run theorem: the script is all that the source had left, or the one that was to be made; what is told fits it and the yard
--- that comes back; no row says that another node extended the chain; and where no fault was counted there, every line has its own
--- answer, the run saw the whole log, and the chain goes on just as often as rows say.
+-- that comes back; and where no fault was counted there, every line has its own answer, the run saw the whole log, and the chain goes
+-- on no more often than rows say.
 pub record Ran (plan : Plan) (left : Option (List ℕ)) (yard : Shown) (told : Told) : Type 0 where
   pub plan_is : IsPlan plan
   pub bytes : List ℕ
@@ -55,10 +55,10 @@ pub record Ran (plan : Plan) (left : Option (List ℕ)) (yard : Shown) (told : T
   pub fits : Fits (lines_of script) told yard
   pub answered : IsCalm yard → all_answered told.rows ≡ true
   pub whole : IsCalm yard → told.end ≡ virtual_tail told.chain yard.cells
-  -- the chain's last loglet lies as many behind the shelf's first as rows say that a line extended it; where nothing is trimmed
-  -- all from the first on stand in the chain
-  pub extended : IsCalm yard → GoesTo told.chain (count_by (λ r. is_some (version_made r.outcome)) told.rows)
-  pub lone : list_all (λ r. not (is_some (version_found r.outcome))) told.rows ≡ true
+  -- the chain's last loglet lies no further behind the shelf's first than rows say that a line extended it, or found that another node
+  -- had; where nothing is trimmed all from the first on stand in the chain. It lies as far as the rows of any one node say: that is a
+  -- part of what fits
+  pub extended : IsCalm yard → GoesByRows told.chain told.rows
   pub shelved : All (λ s. s.id < length yard.cells) told.chain.segments
   pub shelf : length yard.cells ≡ length plan.shelf
 

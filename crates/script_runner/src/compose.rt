@@ -1,8 +1,6 @@
 //! What is to be put: a script is read or made and run, and the text of what it told is made whole.
 ghost use Rattle.std.specs.Prelude.{◌≡◌, ◌≢◌, ◌<◌, ℕ, List, Option, Some, IfOk, All, length, map};
 ghost use Rattle.outside_ends.specs.Faults.{Rose};
-ghost use Rattle.script_text.specs.declared.line.Line.{Line};
-ghost use Rattle.script_text.specs.Lines.{lines_of};
 ghost use Rattle.script_text.specs.Refusal.{refusal_text};
 ghost use Rattle.script_text.specs.Spelling.{IsScript};
 ghost use Rattle.script_words.specs.Plans.{bad_words_text};

@@ -9,8 +9,6 @@
 pub mod crossing;
 mod fabric;
 mod sitting;
-#[cfg(test)]
-mod tests;
 mod writer;
 
 pub use fabric::{Open, Register, fabric_on};

@@ -2,7 +2,6 @@
 ghost use Rattle.std.specs.Prelude.{◌≡◌, []};
 ghost use Rattle.disk_model.specs.Disk.{IsSynced, reads};
 ghost use Rattle.disk_model.specs.Failing.{shown};
-ghost use Rattle.journal_core.specs.Records.{records_of};
 
 use crate::workbench::{OnDisk, Refusal};
 use anyhow::{Result, bail};
@@ -119,6 +118,7 @@ impl StoreBench {
 fn ask(alloc: Global, store: &mut Store<FailDisk>, name: &str, words: &[&str]) -> Result<String> {
     match name {
         "put" | "delete" => change_one(alloc, store, name, words),
+        "puts" => put_many(alloc, store, words),
         "show" => show(alloc, store, words),
         "reopen" => Ok(done(alloc, store.reopen(number(words)?))?),
         "stop" => {
@@ -132,6 +132,10 @@ fn ask(alloc: Global, store: &mut Store<FailDisk>, name: &str, words: &[&str]) -
         "faults" => {
             nothing(words)?;
             told(alloc, store.disk_faults())
+        }
+        "records" => {
+            nothing(words)?;
+            told(alloc, store.records())
         }
         _ => bail!("a store has no call {name}"),
     }
@@ -180,6 +184,22 @@ fn change_one(
     let mut txn = store.begin()?;
     change(&mut txn, &target)?;
     Ok(done(alloc, commit(store, txn, cursor)?)?)
+}
+
+/// Commits so many transactions, each of which sets a key, with the cursors that follow, and tells the answer of the last.
+fn put_many(alloc: Global, store: &mut Store<FailDisk>, words: &[&str]) -> Result<String> {
+    let Some((count, words)) = words.split_first() else {
+        bail!("a count is wanted");
+    };
+    let target = setting(alloc, words)?;
+    let mut last = String::new(alloc);
+    for _put in 0..count.parse::<u64>()? {
+        let mut txn = store.begin()?;
+        change(&mut txn, &target)?;
+        let cursor = store.cursor().saturating_add(1);
+        last = done(alloc, commit(store, txn, cursor)?)?;
+    }
+    Ok(last)
 }
 
 /// The value at a key, and the cursor.

@@ -2,7 +2,6 @@
 ghost use Rattle.std.specs.Prelude.{◌≡◌, [], false, IfOk};
 ghost use Rattle.disk_model.specs.Disk.{IsSynced, reads};
 ghost use Rattle.disk_model.specs.Failing.{shown};
-ghost use Rattle.journal_core.specs.Records.{records_of};
 
 use crate::disks::ask_disk;
 use anyhow::{Result, bail};
@@ -26,10 +25,10 @@ pub trait OnDisk: Drop {
     fn open(alloc: Global, disk: FailDisk) -> Result<Result<Self, Refusal>>
         requires { IsSynced (shown disk) };
 
-    /// Begins on a disk without records. Where the disk fails, what is begun is down.
+    /// Begins on an empty disk. Where the disk fails, what is begun is down.
     fn begin(alloc: Global, disk: FailDisk) -> Result<Self>
         requires synced { IsSynced (shown disk) }
-        requires empty { records_of (reads (shown disk)) ≡ [] };
+        requires empty { reads (shown disk) ≡ [] };
 
     /// Its disk, if it gives it back.
     fn into_disk(self) -> Result<FailDisk>;

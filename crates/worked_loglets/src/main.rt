@@ -2,9 +2,10 @@
 //!
 //! - `topic`: what the cases of a file are about.
 //! - `loglets`: a loglet of any kind. `calls`: lists of its calls, and their answers in words.
-//! - `plans`: what an operation comes to, by what servers told.
+//! - `plans`: what an operation comes to, by what servers told. `bags`: copies of messages, which come again.
 #![tactic(auto)]
 
+mod bags;
 mod calls;
 mod loglets;
 mod plans;
@@ -14,7 +15,7 @@ use anyhow::Result;
 use topic::Part;
 use worked_cases::cases::print_file;
 
-const TOPICS: [Part; 2] = [Part::Loglets, Part::Plans];
+const TOPICS: [Part; 3] = [Part::Loglets, Part::Plans, Part::Bags];
 
 fn main(rt: HostRuntime) -> Result<()> {
     let mut plays = String::new(rt.alloc());

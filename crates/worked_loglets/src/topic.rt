@@ -1,4 +1,5 @@
 //! What the cases of a file are about: loglets, or parts of native ones.
+use crate::bags::BagBench;
 use crate::loglets::LogletBench;
 use crate::plans::PlanBench;
 use anyhow::Result;
@@ -10,6 +11,7 @@ use worked_cases::cases::{Line, Topic, play_on};
 pub enum Part {
     Loglets,
     Plans,
+    Bags,
 }
 
 impl Topic for Part {
@@ -17,6 +19,7 @@ impl Topic for Part {
         match self {
             Part::Loglets => "loglets",
             Part::Plans => "plans",
+            Part::Bags => "bags",
         }
     }
 
@@ -24,6 +27,7 @@ impl Topic for Part {
         match self {
             Part::Loglets => play_on(alloc, &mut LogletBench::new(alloc), with, calls),
             Part::Plans => play_on(alloc, &mut PlanBench, with, calls),
+            Part::Bags => play_on(alloc, &mut BagBench::new(alloc), with, calls),
         }
     }
 }

@@ -8,7 +8,8 @@ use Rattle.virtual_log.specs.Holding.{Holds}
 use Rattle.virtual_log.specs.Log.{GoesBy}
 use Rattle.virtual_log.specs.Log as virtual_log
 use Rattle.virtual_log.proofs.Going.{goes_later}
-use Rattle.journal_core.specs.Records.{records_of}
+use Rattle.journal_pair.specs.Records.{records_of}
+use Rattle.journal_pair.proofs.Areas.{no_bytes}
 use Rattle.store_records.specs.Spelled.{Saved, committed, saved_of, nothing_saved}
 use Rattle.local_store.specs.View as store
 use Rattle.local_replica.specs.Shown.{pair_of, shown, Spells}
@@ -72,7 +73,7 @@ taken_up number w seen rested kept log is who r =
 -- a store that was opened on an empty disk
 pub new_store : (v : store.View) (bytes : List ℕ) → bytes ≡ [] → saved_of (records_of bytes) ≡ Some (store.saved_in v) → v.asked ≡ None → store.Survives v → IsNew v
 new_store v bytes empty spelled asked survives =
-    let saved : Some nothing_saved ≡ Some (store.saved_in v) = sym (ap (λ b. saved_of (records_of b)) empty) ∙ spelled in
+    let saved : Some nothing_saved ≡ Some (store.saved_in v) = sym (ap (λ b. saved_of (records_of b)) empty ∙ ap saved_of no_bytes) ∙ spelled in
     let is : nothing_saved ≡ store.saved_in v = cc in
     record { start = sym (ap (λ (s : Saved). s.cursor) is); empty = sym (ap (λ (s : Saved). s.contents) is); none_asked = asked; survives = survives }
 

@@ -2,11 +2,14 @@
 //!
 //! A case is a narration, whose lines begin with `#`, its input, and a line `----`. Empty lines before it are its own.
 use crate::acts::show_acts;
+use crate::faulting::show_faults;
+use crate::registering::show_registers;
 use crate::replacing::show_replacements;
 use crate::reporting::show_reports;
 use crate::run_rows::show_run_rows;
 use crate::runs::show_run;
 use crate::sessions::show_sessions;
+use crate::tabling::show_tables;
 use crate::trimming::show_trims;
 use anyhow::{Context, ensure};
 use std::fs;
@@ -22,6 +25,12 @@ pub(crate) enum Topic {
     Sessions,
     /// The places and the ranks of acts.
     Acts,
+    /// Rows with the replies of commands and the answers of reads.
+    Tables,
+    /// Rows that are open or late, and what was counted in the yard.
+    Faults,
+    /// The chain that is told, and the register.
+    Registers,
     /// Rows of replacements of the loglet.
     Replacements,
     /// Rows of what nodes report.
@@ -37,6 +46,9 @@ fn show(rt: &HostRuntime, topic: Topic, input: &[&str]) -> anyhow::Result<()> {
         Topic::RunRows => show_run_rows(rt, input),
         Topic::Sessions => show_sessions(rt, input),
         Topic::Acts => show_acts(rt, input),
+        Topic::Tables => show_tables(rt, input),
+        Topic::Faults => show_faults(rt, input),
+        Topic::Registers => show_registers(rt, input),
         Topic::Replacements => show_replacements(rt, input),
         Topic::Reports => show_reports(rt, input),
         Topic::Trims => show_trims(rt, input),

@@ -5,6 +5,7 @@ use anyhow::{Context, bail, ensure};
 use delos_types::chain::Segment;
 use engine_api::content::Placed;
 use fitting_run::answered::Answered;
+use fitting_run::yard::CellShown;
 use row_text::row::Row;
 use script_text::asks::{NamedLine, named_lines};
 use script_text::script::parse;
@@ -12,6 +13,16 @@ use std::alloc::Global;
 
 /// The most nodes that a script may name.
 const NODES: u8 = 8;
+
+/// What was counted in the yard.
+#[derive(Drop)]
+pub(crate) struct Counted {
+    pub(crate) cells: Vec<CellShown>,
+    /// The faults of the register.
+    pub(crate) register: u64,
+    /// The faults of each node's disk.
+    pub(crate) disks: Vec<u64>,
+}
 
 /// What a case says of the end of its run.
 #[derive(Drop)]
@@ -23,8 +34,9 @@ pub(crate) struct End {
     pub(crate) segments: Vec<Segment>,
     /// How many loglets the shelf has.
     pub(crate) shelf: usize,
-    /// What the log has from the trim on, but for commands.
+    /// What the log has from the trim on; where only reports and trims are asked for, but for commands.
     pub(crate) items: Vec<Placed>,
+    pub(crate) counted: Counted,
 }
 
 /// The lines of a script, what they are answered, and the end of the run.
@@ -73,21 +85,53 @@ fn segment_in(id: &str, start: &str, end: Option<u64>) -> anyhow::Result<Segment
     })
 }
 
+/// A loglet that counted these faults and lacks. Where it is full it has no room.
+fn cell_in(alloc: Global, room: u64, lacks: u64, faults: u64) -> CellShown {
+    CellShown {
+        room,
+        limit: 1,
+        cut: 0,
+        log: Vec::new(alloc),
+        reach: 0,
+        begun: 0,
+        faults,
+        lacks,
+    }
+}
+
+/// A line on what was counted in the yard: of the next loglet, of the register, or of the next node's disk.
+fn take_counted(alloc: Global, counted: &mut Counted, words: &[&str]) -> anyhow::Result<()> {
+    match words {
+        ["loglet", "lacks", lacks, "faults", faults] => {
+            let cell = cell_in(alloc, 1, number_in(lacks)?, number_in(faults)?);
+            counted.cells.push(cell)?;
+        }
+        ["full", "loglet", "lacks", lacks, "faults", faults] => {
+            let cell = cell_in(alloc, 0, number_in(lacks)?, number_in(faults)?);
+            counted.cells.push(cell)?;
+        }
+        ["register", "faults", faults] => counted.register = number_in(faults)?,
+        ["disk", "faults", faults] => counted.disks.push(number_in(faults)?)?,
+        _ => bail!("neither a row nor an end"),
+    }
+    Ok(())
+}
+
 /// A line on the end of the run.
-fn take_end(end: &mut End, words: &[&str]) -> anyhow::Result<()> {
+fn take_end(alloc: Global, end: &mut End, words: &[&str]) -> anyhow::Result<()> {
     match words {
         ["end", number] => end.end = number_in(number)?,
         ["nodes", number] => end.nodes = number.parse::<u8>()?,
         ["trim", number] => end.trim = number_in(number)?,
         ["version", number] => end.version = number_in(number)?,
         ["shelf", number] => end.shelf = number.parse::<usize>()?,
-        ["has", place, says @ ..] => end.items.push(item_in(place, says)?)?,
+        ["has", place, says @ ..] => end.items.push(item_in(alloc, place, says)?)?,
         ["seg", id, "from", start, "open"] => end.segments.push(segment_in(id, start, None)?)?,
         ["seg", id, "from", start, "to", stop] => {
             let stop = number_in(stop)?;
             end.segments.push(segment_in(id, start, Some(stop))?)?;
         }
-        _ => bail!("neither a row nor an end"),
+        words => take_counted(alloc, &mut end.counted, words)?,
     }
     Ok(())
 }
@@ -111,6 +155,11 @@ fn rows_and_end(alloc: Global, told: &[&str]) -> anyhow::Result<(Vec<Phased>, En
         segments: Vec::new(alloc),
         shelf: 1,
         items: Vec::new(alloc),
+        counted: Counted {
+            cells: Vec::new(alloc),
+            register: 0,
+            disks: Vec::new(alloc),
+        },
     };
     for line in told {
         let words = words_of(alloc, line)?;
@@ -120,7 +169,7 @@ fn rows_and_end(alloc: Global, told: &[&str]) -> anyhow::Result<(Vec<Phased>, En
                 let row = row_in(alloc, number, who, outcome).context(format_args!("`{line}`"))?;
                 rows.push(Phased { phase, row })?;
             }
-            words => take_end(&mut end, words).context(format_args!("`{line}`"))?,
+            words => take_end(alloc, &mut end, words).context(format_args!("`{line}`"))?,
         }
     }
     Ok((rows, end))

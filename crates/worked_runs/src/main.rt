@@ -5,8 +5,11 @@
 mod acts;
 mod cases;
 mod disks;
+mod faulting;
 mod fits;
+mod logs;
 mod own;
+mod registering;
 mod replacing;
 mod reporting;
 mod rows;
@@ -14,13 +17,14 @@ mod run_rows;
 mod runs;
 mod sessions;
 mod setup;
+mod tabling;
 mod trimming;
 mod words;
 
 use cases::{Topic, play_file};
 
 /// The data files, each with what its cases are.
-const FILES: [(&str, Topic); 15] = [
+const FILES: [(&str, Topic); 18] = [
     ("replies.txt", Topic::Run),
     ("nodes.txt", Topic::Run),
     ("replacements.txt", Topic::Run),
@@ -33,6 +37,9 @@ const FILES: [(&str, Topic); 15] = [
     ("fit_runs.txt", Topic::RunRows),
     ("fit_sessions.txt", Topic::Sessions),
     ("fit_acts.txt", Topic::Acts),
+    ("fit_tables.txt", Topic::Tables),
+    ("fit_faults.txt", Topic::Faults),
+    ("fit_registers.txt", Topic::Registers),
     ("fit_replacements.txt", Topic::Replacements),
     ("fit_reports.txt", Topic::Reports),
     ("fit_trims.txt", Topic::Trims),

@@ -3,9 +3,9 @@ use crate::fits::{halves, lines_in, script_of};
 use crate::runs::run_plainly;
 use crate::sessions::judge;
 use crate::words::{number_in, words_of};
-use anyhow::bail;
+use anyhow::{bail, ensure};
 use fitting_run::answered::Answered;
-use fitting_run::fitting::reads_are_within;
+use fitting_run::fitting::{as_many_rows, reads_are_within};
 
 /// Runs a script over a file loglet, and prints how many rows there are, the end, and whether the rows fit the script. Below the
 /// line `rows` a case names positions, as `within 3`, and it is printed whether each read looked at most there.
@@ -19,11 +19,13 @@ pub(crate) fn show_run_rows(rt: &HostRuntime, input: &[&str]) -> anyhow::Result<
     let count = rows.len();
     println!(rt; "rows {count}")?;
     println!(rt; "end {end}")?;
+    let lines = lines_in(alloc, script.as_slice())?;
+    ensure!(
+        as_many_rows(lines.as_slice(), rows.as_slice()),
+        "each line has one row"
+    );
     let mut answered = Vec::new(alloc);
-    for (line, row) in lines_in(alloc, script.as_slice())?
-        .into_iter()
-        .zip(rows.into_iter())
-    {
+    for (line, row) in lines.into_iter().zip(rows.into_iter()) {
         answered.push(Answered { line, row })?;
     }
     let answered = answered.as_slice();

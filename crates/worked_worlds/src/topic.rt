@@ -1,15 +1,17 @@
-//! What the schedules of a file are about: one cell, a world, or cells in stripes.
+//! What the cases of a file are about: one cell, a world, cells in stripes, or a gate.
+use crate::gates::GateBench;
 use crate::worlds::WorldBench;
 use anyhow::Result;
 use std::alloc::Global;
 use worked_cases::cases::{Line, Topic, play_on};
 
-/// What the schedules of a file are about.
+/// What the cases of a file are about.
 #[derive(Clone, Copy)]
 pub enum Part {
     Cells,
     Worlds,
     Stripes,
+    Gates,
 }
 
 impl Topic for Part {
@@ -18,10 +20,14 @@ impl Topic for Part {
             Part::Cells => "cells",
             Part::Worlds => "worlds",
             Part::Stripes => "stripes",
+            Part::Gates => "gates",
         }
     }
 
     fn play(&self, alloc: Global, with: &str, calls: &[Line]) -> Result<String> {
-        play_on(alloc, &mut WorldBench::new(alloc)?, with, calls)
+        match self {
+            Part::Gates => play_on(alloc, &mut GateBench::new(), with, calls),
+            _ => play_on(alloc, &mut WorldBench::new(alloc)?, with, calls),
+        }
     }
 }

@@ -1,14 +1,12 @@
-use Rattle.std.proofs.Common.{◌≡◌, ℕ, [], length, map, replicate, sym, ap, ◌∙◌, subst, arith}
-use Rattle.std.proofs.lemmas.List.{length-map, length-replicate}
-use Rattle.legal_journal.specs.Journal.{IsLegal}
+use Rattle.std.proofs.Common.{[], length, sym, ap, ◌∙◌, subst, arith}
 use Rattle.node_lines.specs.Workers.{Sends}
-use Rattle.run_course.specs.Script.{AreLines}
+use Rattle.node_course.specs.Script.{AreLines}
 use Rattle.node_crew.specs.Crews.{CrewRests, CrewStands}
 use Rattle.crew_making.specs.Apart.{AreAsTold}
 use Rattle.crew_making.specs.Fresh.{AreFreshFrom, AreNewWorkers}
 use Rattle.fabric_core.specs.Fabric.{FabricView}
 use Rattle.crew_making.proofs.Fresh.{fresh_from}
-use Rattle.node_opening.proofs.Lists.{all_zero, as_long, shown_same}
+use Rattle.node_opening.proofs.Lists.{as_long, shown_same}
 use Rattle.crew_making.proofs.Resting.{crew_rests, new_stands}
 use Rattle.crew_making.proofs.make.make_crew.Goals as goal
 
@@ -36,11 +34,9 @@ returns-in-Ok-new-clause-rests g c =
     let q = c.seat_all-workers in
     let size = as_long (λ b. b.replica) (λ n. n.replica) c.in-Ok-prepare_all.berths.items a.nodes.now.items c.in-Ok-prepare_all.ensures.replicas in
     let size' = as_long (λ w. w.seat.node.replica) (λ b. r.shows b.replica) q.result.items c.in-Ok-prepare_all.berths.items q.ensures.replicas in
-    let shelf = sym (ap length c.requires.shelf) ∙ (length-map (map g.L.Loglet.view a.cells.items) (λ v. v.servers) ∙ length-map a.cells.items g.L.Loglet.view) in
-    let legal : IsLegal p.law [] = record { least = omega (arith, shelf, c.requires.least); most = omega (arith, shelf, c.requires.most); steps = tt } in
     subst (λ j. CrewRests p.law r.state r.spells a.lines.now 0 0 j c.in-Ok.looks.items (λ w. w.seat) (λ w. w.desks.items) q.result.items) (sym (ap (λ (f : FabricView). f.journal) c.in-Ok-new.ensures.ok))
-    (crew_rests p.law a.lines.now (replicate 64 0) c.in-Ok.looks.items (all_zero 64) (length-replicate {A = ℕ} 64 0) c.in-Ok.ensures.size c.in-Ok.ensures.none r.state r.spells c.requires.lines.0 (λ w. w.seat) (λ w. w.desks.items) q.result.items
-    (subst (AreLines a.lines.now c.requires.lines.0) (sym (size' ∙ size)) c.requires.lines.1) legal
+    (crew_rests p.law a.lines.now c.in-Ok.looks.items c.in-Ok.ensures.size c.in-Ok.ensures.none r.state r.spells c.requires.lines.0 (λ w. w.seat) (λ w. w.desks.items) q.result.items
+    (subst (AreLines a.lines.now c.requires.lines.0) (sym (size' ∙ size)) c.requires.lines.1)
     (subst (λ k. AreNewWorkers (λ who. record p.law { may = Sends who p.law.may [] [] }) r.state r.spells k (λ w. w.seat) (λ w. w.desks.items) q.result.items) (sym size') q.ensures.workers))
 
 pub returns-in-Ok-new-clause-stands : goal.returns-in-Ok-new-clause-stands

@@ -1,12 +1,8 @@
-use Rattle.std.proofs.Common.{◌≡◌, refl, sym, ◌∙◌, subst, true, List, length, count_by, map}
-use Rattle.std.specs.Prelude.{not, is_some}
-use Rattle.std.specs.List.{list_all}
+use Rattle.std.proofs.Common.{◌≡◌, refl, sym, ◌∙◌, subst, List, length, map}
 use Rattle.std.proofs.lemmas.List.{length-map}
 use Rattle.delos_types.specs.declared.chain.Chain.{Chain}
 use Rattle.legal_journal.specs.Journal.{IsLegal}
 use Rattle.fitting_run.specs.Yard.{Shown}
-use Rattle.fitting_run.specs.Replacements.{version_made, version_found}
-use Rattle.fitting_run.specs.Calm.{GoesTo}
 use Rattle.fitting_run.specs.declared.told.Told.{Told}
 use Rattle.run_laws.specs.Ended.{RunEnded}
 use Rattle.fabric_core.specs.Fabric.{IsRegisterAsTold}
@@ -17,7 +13,7 @@ use Rattle.run_ends.specs.Rows.{AreRows, CanTell}
 use Rattle.fitting_run.specs.Fits.{Fits}
 use Rattle.turn_scopes.specs.Floors.{FloorIs}
 use Rattle.run_closing.specs.Finishing.{SeesAll}
-use Rattle.crew_run.proofs.Lone.{all_lone}
+use Rattle.crew_run.specs.Telling.{GoesByRows}
 use Rattle.crew_run.proofs.Telling.{stands_on, own_more, reads_asked}
 use Rattle.node_workers.proofs.Ok.{in_ok, on_ok}
 use Rattle.crew_run.proofs.tell.tell_closed.Goals as goal
@@ -65,10 +61,8 @@ returns-in-Ok-Ok-clause-told g c =
           (subst (λ n. SeesAll early (λ (w : WorkerEnd). w.seat) ends n) (sym h.1) c.requires.sees) h.2.front reads
           (subst (λ l. IsGivenBack p.law l ends o.chain yard) asks.seen back) quiet;
       extended = λ yard back quiet.
-          subst (λ (k : Chain). GoesTo k (count_by (λ r. is_some (version_made r.outcome)) o.rows)) (sym last.told)
-          (c.each_segment_is_told.ensures lines o.rows new w.looks.items h.0 ends closed rows' (c.a_calm_journal_tells_no_fault.ensures new ends o.chain yard back quiet));
-      lone = λ yard back told. let e = ended yard back told in
-          subst (λ rs. list_all (λ r. not (is_some (version_found r.outcome))) rs ≡ true) (sym e.1.rows) (all_lone o.version o.chain (length yard.cells) (played_of lines o.rows w.looks.items) e.1.replacements.each);
+          let goes = c.each_segment_is_told.ensures lines o.rows new w.looks.items h.0 ends closed rows' in
+          subst (λ (k : Chain). GoesByRows k o.rows) (sym last.told) (record { most = goes.most (c.a_calm_journal_tells_no_fault.ensures new ends o.chain yard back quiet); segments = goes.segments });
       fits = λ yard back told. let e = ended yard back told in subst (λ l. Fits l o yard) e.0 (c.what_ended_fits.ensures (played_of lines o.rows w.looks.items) o yard e.1);
       calm = λ yard back told quiet. c.a_calm_run_answers_all.ensures (played_of lines o.rows w.looks.items) o yard (ended yard back told).1 quiet;
     }

@@ -1,4 +1,4 @@
-use Rattle.journal_laws.proofs.Staying.{tail_asked}
+use Rattle.journal_laws.proofs.Asked.{tail_asked}
 use Rattle.journal_laws.proofs.chain.a_sealed_tail_was_asked.Goals as goal
 
 pub returns : goal.returns

@@ -1,5 +1,5 @@
 use Rattle.std.proofs.Common.{◌≤◌}
-use Rattle.node_crew.specs.Crews.{HasNone}
+use Rattle.node_crew.specs.Turns.{HasNone}
 use Rattle.node_crew.proofs.crew.has_line.Given as goal
 
 abbrev pub invariant-loop-i : goal.invariant-loop-i

@@ -57,7 +57,7 @@ loop-from-preserved g c =
     record {
       high = c.end_of_phase-to.ensures.range.1;
       size = q.ensures.size ∙ l.invariant.size;
-      rests = (all.course.phase + 1, crew_ends p.law r.state r.spells lines (λ w. w.seat) (λ w. w.desks.items) w.workers.items l.from to w.fabric.journal w.looks.items all);
+      rests = (all.phase + 1, crew_ends p.law r.state r.spells lines (λ w. w.seat) (λ w. w.desks.items) w.workers.items l.from to w.fabric.journal w.looks.items all);
       stands = q.ensures.stands;
     }
 

@@ -1,8 +1,9 @@
-use Rattle.std.proofs.Common.{◌≡◌, ◌≤◌, ◌+◌, ℕ, List}
-use Rattle.node_lines.specs.Workers.{Grows}
-use Rattle.run_course.specs.Script.{BeginsAt}
-use Rattle.run_course.specs.Course.{Course}
-use Rattle.run_course.specs.Workers.{IsUnderWay, LineWent}
+use Rattle.std.proofs.Common.{◌≡◌, ◌≤◌, ◌+◌, ℕ}
+use Rattle.turn_scopes.specs.Beside.{Since}
+use Rattle.node_course.specs.Script.{BeginsAt}
+use Rattle.node_course.specs.Moments.{NodeCourse}
+use Rattle.node_course.specs.Workers.{LineWent}
+use Rattle.node_crew.specs.Turns.{CanEnd, IsUnderWay, KeepsOthers}
 use Rattle.node_crew.proofs.turn.play_lines.Given as goal
 
 abbrev pub invariant-loop-i : goal.invariant-loop-i
@@ -10,9 +11,11 @@ invariant-loop-i g l = record {
   low : l.fn.from ≤ l.i;
   high : l.i ≤ l.fn.to;
   who : l.worker.seat.who ≡ l.node;
-  whose : l.lone.who ≡ l.node;
-  grows : Grows l.initial.lone.fabric.journal l.lone.fabric.journal;
-  goes : (home : ℕ → ℕ) (nodes : ℕ) (c : Course) (counts : List ℕ)
-      → IsUnderWay g.K.Terms.law g.S.Replica.state g.S.Replica.spells l.lines home nodes c counts l.initial.looks.items l.node l.fn.from l.fn.from l.initial.lone.fabric.journal l.initial.worker.seat l.initial.worker.desks.items → BeginsAt l.lines l.fn.to (c.phase + 1)
-      → LineWent g.K.Terms.law g.S.Replica.state g.S.Replica.spells l.lines home nodes c counts l.initial.looks.items l.looks.items l.node l.fn.from l.i l.lone.fabric.journal l.worker.seat l.worker.desks.items;
+  whose : g.A.Access.who l.access ≡ l.node;
+  since : Since l.initial.worker.seat.who (g.A.Access.beside l.initial.worker.seat.who) (g.A.Access.seen l.initial.access) (g.A.Access.seen l.access);
+  keeps : KeepsOthers l.lines l.node l.initial.looks.items l.looks.items;
+  ends : CanEnd g.A.Access.beside g.A.Law.Rules.law.floor (g.A.Access.seen l.access) l.worker.seat l.worker.desks.items;
+  goes : (home : ℕ → ℕ) (nodes : ℕ) (c : NodeCourse)
+      → IsUnderWay g.A.Law.Rules.law g.S.Replica.state g.S.Replica.spells l.lines home nodes c l.initial.looks.items l.node l.fn.from l.fn.from (g.A.Access.seen l.initial.access) l.initial.worker.seat l.initial.worker.desks.items → BeginsAt l.lines l.fn.to (c.phase + 1)
+      → LineWent g.A.Law.Rules.law g.S.Replica.state g.S.Replica.spells l.lines home nodes c l.looks.items l.node l.fn.from l.i (g.A.Access.seen l.access) l.worker.seat l.worker.desks.items;
 }

@@ -43,10 +43,11 @@ returns-in-Failed g c =
     let new = c.sync.new.node in
     let kept = ap (λ (r : ReplicaView). r.kept) c.in_ok-settle.ensures.replica ∙ c.in_ok-pack.ensures.kept in
     let last : Moves p.law then' new (c.in-Failed.cause ∷ []) = subst (λ s. Moves p.law then' new (failure_of s)) c.in-Failed.is c.in_ok-sync.ensures.moves in
+    let before : Moves p.law old then' [] = moves-both p.law c.requires.floor old first then' [] [] c.in_ok-pack.ensures.moves c.in_ok-settle.ensures.moves in
     record {
       ends = record {
-        moves = moves-both p.law c.requires.floor old then' new [] (c.in-Failed.cause ∷ [])
-            (moves-both p.law c.requires.floor old first then' [] [] c.in_ok-pack.ensures.moves c.in_ok-settle.ensures.moves) last;
+        moves = moves-both p.law c.requires.floor old then' new [] (c.in-Failed.cause ∷ []) before last;
+        first = record { settled = then'; carries = record { moves = before; none = c.in_ok-settle.ensures.none; kept = kept }; since = last };
         none = ap (λ (o : OutboxView). o.entries) c.in_ok-sync.ensures.outbox ∙ c.in_ok-settle.ensures.none;
         unsettled = ap (λ (o : OutboxView). o.unsettled) c.in_ok-sync.ensures.outbox ∙ c.in_ok-settle.ensures.unsettled;
         kept = c.in_ok-sync.ensures.kept ∙ kept;

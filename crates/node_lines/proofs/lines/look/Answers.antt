@@ -23,7 +23,7 @@ returns-in-Failed-clause-looks g c =
       others = c.in-Failed.cause ∷ [];
       moves = moves-both p.law c.requires.floor c.args.node.now c.settle.new.node c.sync.new.node [] (c.in-Failed.cause ∷ [])
           (moves-both p.law c.requires.floor c.args.node.now c.pack.new.node c.settle.new.node [] [] c.in_ok-pack.ensures.moves c.in_ok-settle.ensures.moves) last;
-      looks = (refl, c.in-None.ensures.stopped refl);
+      looks = (refl, (c.in-None.ensures.stopped refl, subst (λ (o : OutboxView). cause_in c.args.desk.now.session o.given ≡ None) (sym c.in_ok-cause.ensures.outbox) (c.in-None.ensures.given refl)));
     }
 
 pub returns-in-At-clause-looks : goal.returns-in-At-clause-looks

@@ -3,7 +3,7 @@ use Rattle.base_engine.specs.Settling.{OutboxView}
 use Rattle.replica_api.specs.Replica.{ReplicaView}
 use Rattle.node_lines.specs.Moving.{Moves, failure_of}
 use Rattle.node_lines.proofs.Moving.{moves-both}
-use Rattle.node_lines.proofs.Ending.{Ended, all, stands_at}
+use Rattle.node_lines.proofs.Ending.{Ended, all, carried_first, stands_at}
 use Rattle.node_lines.proofs.Measuring.{same_number}
 use Rattle.node_lines.proofs.measure.catch_up.Goals as goal
 
@@ -14,13 +14,16 @@ returns-in-Failed g c =
     let then' = c.settle.new.node in
     let new = c.sync.new.node in
     let why = c.in-Failed.cause in
+    let kept = ap (λ (r : ReplicaView). r.kept) c.in_ok-settle.ensures.replica ∙ c.in_ok-pack.ensures.kept in
+    let before : Moves p.law old then' [] = moves-both p.law c.requires.floor old c.pack.new.node then' [] [] c.in_ok-pack.ensures.moves c.in_ok-settle.ensures.moves in
     let last : Moves p.law then' new (why ∷ []) = subst (λ s. Moves p.law then' new (failure_of s)) c.in-Failed.is c.in_ok-cause.ensures.moves in
     record {
       measures = record {
-        moves = moves-both p.law c.requires.floor old then' new [] (why ∷ []) (moves-both p.law c.requires.floor old c.pack.new.node then' [] [] c.in_ok-pack.ensures.moves c.in_ok-settle.ensures.moves) last;
+        moves = moves-both p.law c.requires.floor old then' new [] (why ∷ []) before last;
+        first = record { settled = then'; carries = record { moves = before; none = c.in_ok-settle.ensures.none; kept = kept }; since = last };
         none = ap (λ (o : OutboxView). o.entries) c.in_ok-cause.ensures.outbox ∙ c.in_ok-settle.ensures.none;
         unsettled = ap (λ (o : OutboxView). o.unsettled) c.in_ok-cause.ensures.outbox ∙ c.in_ok-settle.ensures.unsettled;
-        kept = c.in_ok-cause.ensures.kept ∙ (ap (λ (r : ReplicaView). r.kept) c.in_ok-settle.ensures.replica ∙ c.in_ok-pack.ensures.kept);
+        kept = c.in_ok-cause.ensures.kept ∙ kept;
         measured = λ n same. absurd (cc);
       };
     }
@@ -46,6 +49,7 @@ returns-in-At g c =
     record {
       measures = record {
         moves = all p.law c.requires.floor old first then' new c.in-At.field-0 e;
+        first = carried_first p.law c.requires.floor old first then' new c.in-At.field-0 e;
         none = ap (λ (o : OutboxView). o.entries) c.in_ok-cause.ensures.outbox ∙ c.in_ok-settle.ensures.none;
         unsettled = ap (λ (o : OutboxView). o.unsettled) c.in_ok-cause.ensures.outbox ∙ c.in_ok-settle.ensures.unsettled;
         kept = c.in_ok-cause.ensures.kept ∙ kept;

@@ -1,6 +1,6 @@
 use Rattle.std.proofs.Common.{◌≡◌, refl, subst, None, arith}
 use Rattle.node_lines.specs.Lines.{failure_in}
-use Rattle.node_lines.specs.Moving.{Moves}
+use Rattle.node_lines.specs.Moving.{Moves, CarriesFirst}
 use Rattle.node_lines.proofs.Desks.{desk_moves}
 use Rattle.node_lines.proofs.Turning.{answers_whole}
 use Rattle.node_lines.proofs.turn.answer_all.Goals as goal
@@ -19,6 +19,7 @@ returns-in-Some g c =
     record {
       answers = record {
         moves = subst (λ f. Moves p.law n m (failure_in f)) c.in-Some.is e.moves;
+        first = subst (λ f. CarriesFirst p.law n m (failure_in f)) c.in-Some.is e.first;
         none = e.none;
         unsettled = e.unsettled;
         kept = e.kept;
@@ -41,6 +42,7 @@ returns g c =
     record {
       answers = record {
         moves = subst (λ f. Moves p.law n m (failure_in f)) failed e.moves;
+        first = subst (λ f. CarriesFirst p.law n m (failure_in f)) failed e.first;
         none = e.none;
         unsettled = e.unsettled;
         kept = e.kept;

@@ -1,10 +1,11 @@
 use Rattle.std.proofs.Common.{ap, ◌∙◌}
-use Rattle.journal_core.specs.Records.{records_of}
+use Rattle.journal_pair.specs.Records.{records_of}
+use Rattle.journal_pair.proofs.Areas.{no_bytes}
 use Rattle.node_opening.proofs.Begun.{fresh_replica, is_counted, armed_as}
 use Rattle.node_opening.proofs.opening.open_node.Goals as goal
 
 pub begin_on-requires-clause-empty : goal.begin_on-requires-clause-empty
-begin_on-requires-clause-empty g c = ap records_of c.requires.empty
+begin_on-requires-clause-empty g c = ap records_of c.requires.empty ∙ no_bytes
 
 pub returns-in-Ok-clause-fresh : goal.returns-in-Ok-clause-fresh
 returns-in-Ok-clause-fresh g c =

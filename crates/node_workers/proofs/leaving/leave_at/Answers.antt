@@ -134,7 +134,7 @@ returns-clause-leaves g c =
     let item = c.in-Ok-leave_item.value in
     let h = subst (λ f. AnswersAll (record p.law { may = may }) old mid c.args.desks.now.items c.in_turn-seat.new.on.items f) c.in_default.is (in_ok _ c.in-Ok.is c.in_turn-seat.ensures.did) in
     ok_comes (Leaves (record p.law { may = may }) old now) c.tell_and_play-seat.result.answer c.came_to.ensures c.tell_and_play-seat.ensures.did
-    (λ failed t. leaves (record p.law { may = may }) c.requires.run.low old mid now c.args.number item failed h.moves made.item (sym c.requires.number ∙ sym c.requires.origin) made.proposable made.says
+    (λ failed t. leaves (record p.law { may = may }) c.requires.run.low old mid now c.args.number item failed h.first made.item (sym c.requires.number ∙ sym c.requires.origin) made.proposable made.says
     (subst (λ w. TellsAndPlays (record p.law { may = OwnWithin w p.law.may g.E.Sent.counts }) mid now item failed) c.in_turn-seat.ensures.left.who t))
 
 pub returns-clause-adds : goal.returns-clause-adds

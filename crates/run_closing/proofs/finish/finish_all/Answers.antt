@@ -1,82 +1,87 @@
-use Rattle.std.proofs.Common.{◌≡◌, sym, ◌∙◌, subst, ◌+◌, ◌<◌, ◌≤◌, ⊎_elim, refl, length, arith}
-use Rattle.std.specs.Prelude.{slice_set}
-use Rattle.std.proofs.lemmas.Bool.{cases_lt}
+use Rattle.std.proofs.Common.{sym, subst}
 use Rattle.turn_scopes.specs.Floors.{FloorIs}
-use Rattle.node_workers.proofs.Ok.{in_ok, on_ok}
 use Rattle.node_lines.proofs.Widening.{grows-both}
-use Rattle.node_crew.proofs.Playing.{grows-none}
-use Rattle.run_closing.specs.Finishing.{HasMost}
-use Rattle.run_closing.proofs.Seeing.{sees_most}
-use Rattle.run_closing.proofs.Finishing.{rests_stand, some_node, most_first, most_next, most_stays, none_passed, passes_next}
+use Rattle.node_workers.proofs.Ok.{in_ok, ok_then, on_ok}
+use Rattle.node_crew.proofs.Ok.{on_ok as on_then}
+use Rattle.run_closing.specs.Finishing.{IsMost, PassesBut, PlaysLast}
+use Rattle.run_closing.proofs.Finishing.{last_all, most_before, passes_all, passes_both, plays_all}
+use Rattle.run_closing.proofs.Ok.{if_ok2, if_ok2_then}
 use Rattle.run_closing.proofs.finish.finish_all.Goals as goal
 
-pub loop-k-init : goal.loop-k-init
-loop-k-init g c =
-    let p = g.K.Terms in
-    let r = g.S.Replica in
+pub finish_most-requires-clause-floor : goal.finish_most-requires-clause-floor
+finish_most-requires-clause-floor g c = subst (FloorIs g.K.Terms.law.floor) (sym c.finish_each-crew.ensures.size) c.requires.floor
+
+pub finish_most-requires-clause-rests : goal.finish_most-requires-clause-rests
+finish_most-requires-clause-rests g c = on_ok _ c.in-Ok.is c.finish_each-crew.ensures.rests
+
+pub finish_most-requires-clause-most : goal.finish_most-requires-clause-most
+finish_most-requires-clause-most g c = in_ok _ c.in-Ok.is c.finish_each-crew.ensures.most
+
+pub finish_most-requires-clause-sees : goal.finish_most-requires-clause-sees
+finish_most-requires-clause-sees g c = in_ok _ c.in-Ok.is c.finish_each-crew.ensures.sees
+
+pub returns-in-Ok-clause-most : goal.returns-in-Ok-clause-most
+returns-in-Ok-clause-most g c = ok_then c.finish_most.result.answer c.finish_most.ensures.most (λ most h. h.1)
+
+pub returns-in-Ok-clause-passes : goal.returns-in-Ok-clause-passes
+returns-in-Ok-clause-passes g c =
     let a = c.args.crew in
-    record {
-      high = omega arith;
-      size = refl;
-      rests = c.requires.rests;
-      grows = grows-none a.fabric.journal;
-      passes = none_passed (λ w. w.seat) a.workers.items;
-      most = most_first (λ w. w.seat) a.workers.items
-          (some_node p.law r.state r.spells c.args.lines.now (λ w. w.seat) (λ w. w.desks.items) a.workers.items (length c.args.lines.now) c.requires.rests.0 a.fabric.journal a.looks.items c.requires.rests.1);
-    }
+    let m = c.finish_each-crew.result.crew in
+    let q = c.finish_most in
+    let n = q.result.crew in
+    let ends = c.in-Ok.ends in
+    on_then q.result.answer q.ensures.still (λ still.
+    passes_all c.args.lines.now a.looks.items (λ w. w.seat) a.workers.items ends.passed m.workers.items n.workers.items a.fabric.journal m.fabric.journal n.fabric.journal
+    (in_ok _ c.in-Ok.is c.finish_each-crew.ensures.all) still (on_ok _ c.in-Ok.is c.finish_each-crew.ensures.passes))
 
-pub finish_node-now-requires-clause-floor : goal.finish_node-now-requires-clause-floor
-finish_node-now-requires-clause-floor g c = subst (FloorIs g.K.Terms.law.floor) (sym c.loop-k.invariant.size) c.requires.floor
+pub returns-in-Ok-clause-plays : goal.returns-in-Ok-clause-plays
+returns-in-Ok-clause-plays g c =
+    let a = c.args.crew in
+    let m = c.finish_each-crew.result.crew in
+    let q = c.finish_most in
+    let n = q.result.crew in
+    let ends = c.in-Ok.ends in
+    on_then q.result.answer q.ensures.still (λ still.
+    plays_all c.args.lines.now a.looks.items (λ w. w.seat) a.workers.items ends.passed m.workers.items n.workers.items a.fabric.journal m.fabric.journal n.fabric.journal
+    (in_ok _ c.in-Ok.is c.finish_each-crew.ensures.all) still (on_ok _ c.in-Ok.is c.finish_each-crew.ensures.plays))
 
-pub loop-k-preserved : goal.loop-k-preserved
-loop-k-preserved g c =
-    let l = c.loop-k in
-    let q = c.finish_node-now in
-    let m = l.most in
-    let done = in_ok _ c.in-Ok.is q.ensures.finishes in
-    let rests = on_ok _ c.in-Ok.is q.ensures.rests in
-    let most : HasMost (λ w. w.seat) q.result.crew.workers.items (l.k + 1) c.most_of-most.result.node c.most_of-most.result.cursor = subst (λ xs. HasMost (λ w. w.seat) xs (l.k + 1) c.most_of-most.result.node c.most_of-most.result.cursor) (sym done.is)
-    (⊎_elim
-    (λ (more : m.cursor < c.in-Ok.cursor).
-    let new = c.most_of-most.ensures.more more in
-    subst (λ n. HasMost (λ w. w.seat) (slice_set l.crew.workers.items l.k done.now) (l.k + 1) n c.most_of-most.result.cursor) (sym new.0)
-    (subst (λ n. HasMost (λ w. w.seat) (slice_set l.crew.workers.items l.k done.now) (l.k + 1) l.k n) (sym new.1)
-    (most_next (λ w. w.seat) l.crew.workers.items l.k m.node m.cursor c.in-Ok.cursor done.was done.now done.was_at done.at l.invariant.most more)))
-    (λ (few : c.in-Ok.cursor ≤ m.cursor).
-    let same = c.most_of-most.ensures.same few in
-    subst (λ x. HasMost (λ w. w.seat) (slice_set l.crew.workers.items l.k done.now) (l.k + 1) x.node x.cursor) (sym same)
-    (most_stays (λ w. w.seat) l.crew.workers.items l.k m.node m.cursor c.in-Ok.cursor done.was done.now done.was_at done.at l.invariant.most few))
-    (cases_lt m.cursor c.in-Ok.cursor)) in
-    record {
-      high = omega (arith, c.loop-k-test.true);
-      size = q.ensures.size ∙ l.invariant.size;
-      rests = rests;
-      grows = grows-both c.args.crew.fabric.journal l.crew.fabric.journal q.result.crew.fabric.journal l.invariant.grows q.ensures.grows;
-      passes = passes_next (λ w. w.seat) c.args.crew.workers.items l.crew.workers.items q.result.crew.workers.items l.k c.in-Ok.cursor l.crew.fabric.journal q.result.crew.fabric.journal done l.invariant.passes;
-      most = most;
-    }
+pub returns-in-Ok-clause-others : goal.returns-in-Ok-clause-others
+returns-in-Ok-clause-others g c =
+    let lines = c.args.lines.now in
+    let a = c.args.crew in
+    let mid = c.finish_each-crew.result.crew.workers.items in
+    let q = c.finish_most in
+    let node = c.in-Ok.ends.most.node in
+    let passes = on_ok _ c.in-Ok.is c.finish_each-crew.ensures.passes in
+    if_ok2 q.result.answer q.ensures.passes q.ensures.most (λ last most h.
+    subst (λ n. PassesBut n lines a.looks.items (λ w. w.seat) a.workers.items q.result.crew.workers.items) (sym h.0)
+    (passes_both lines a.looks.items (λ w. w.seat) a.workers.items mid q.result.crew.workers.items node passes
+    (subst (λ i. PassesBut node lines i (λ w. w.seat) mid q.result.crew.workers.items) c.finish_each-crew.ensures.looks last)))
 
-pub returns-clause-most : goal.returns-clause-most
-returns-clause-most g c =
-    let l = c.loop-k in
-    let over : l.k ≡ length l.crew.workers.items = omega (arith, l.invariant.high, l.invariant.size, c.loop-k-test.false) in
-    subst (λ k. HasMost (λ w. w.seat) l.crew.workers.items k l.most.node l.most.cursor) over l.invariant.most
+pub returns-in-Ok-clause-greatest : goal.returns-in-Ok-clause-greatest
+returns-in-Ok-clause-greatest g c =
+    let lines = c.args.lines.now in
+    let a = c.args.crew in
+    let mid = c.finish_each-crew.result.crew.workers.items in
+    let q = c.finish_most in
+    let ends = c.in-Ok.ends in
+    ok_then q.result.answer q.ensures.most (λ most h. λ all.
+    subst (λ n. IsMost (λ w. w.seat) a.workers.items n) (sym h.0)
+    (most_before lines a.looks.items (λ w. w.seat) a.workers.items mid ends.most.node ends.most.cursor (in_ok _ c.in-Ok.is c.finish_each-crew.ensures.most) (on_ok _ c.in-Ok.is c.finish_each-crew.ensures.passes) all))
 
-pub returns-clause-sees : goal.returns-clause-sees
-returns-clause-sees g c =
-    let l = c.loop-k in
-    let over : l.k ≡ length l.crew.workers.items = omega (arith, l.invariant.high, l.invariant.size, c.loop-k-test.false) in
-    sees_most l.crew.fabric.journal (λ w. w.seat) l.crew.workers.items l.most.node l.most.cursor (subst (λ k. HasMost (λ w. w.seat) l.crew.workers.items k l.most.node l.most.cursor) over l.invariant.most) l.invariant.rests.1.sees
+pub returns-in-Ok-clause-last : goal.returns-in-Ok-clause-last
+returns-in-Ok-clause-last g c =
+    let lines = c.args.lines.now in
+    let a = c.args.crew in
+    let m = c.finish_each-crew.result.crew in
+    let q = c.finish_most in
+    let n = q.result.crew in
+    let ends = c.in-Ok.ends in
+    if_ok2_then q.result.answer q.ensures.still q.ensures.plays q.ensures.most (λ still plays most h. λ all.
+    subst (λ k. PlaysLast k a.fabric.journal n.fabric.journal (λ w. w.seat) a.workers.items n.workers.items) (sym h.0)
+    (last_all lines a.looks.items (λ w. w.seat) a.workers.items ends.passed m.workers.items n.workers.items a.fabric.journal m.fabric.journal n.fabric.journal
+    (in_ok _ c.in-Ok.is c.finish_each-crew.ensures.all) still ends.most.node (in_ok _ c.in-Ok.is c.finish_each-crew.ensures.some) plays c.finish_each-crew.ensures.grows (on_ok _ c.in-Ok.is c.finish_each-crew.ensures.passes) all))
 
-pub returns-clause-stands : goal.returns-clause-stands
-returns-clause-stands g c =
-    let p = g.K.Terms in
-    let r = g.S.Replica in
-    let l = c.loop-k in
-    rests_stand p.law r.state r.spells c.args.lines.now (λ w. w.seat) (λ w. w.desks.items) l.crew.workers.items (length c.args.lines.now) l.invariant.rests.0 l.crew.fabric.journal l.crew.looks.items l.invariant.rests.1
-
-pub returns-in-Err-clause-grows : goal.returns-in-Err-clause-grows
-returns-in-Err-clause-grows g c =
-    let l = c.loop-k in
-    let q = c.finish_node-now in
-    grows-both c.args.crew.fabric.journal l.crew.fabric.journal q.result.crew.fabric.journal l.invariant.grows q.ensures.grows
+pub returns-in-Ok-clause-grows : goal.returns-in-Ok-clause-grows
+returns-in-Ok-clause-grows g c =
+    grows-both c.args.crew.fabric.journal c.finish_each-crew.result.crew.fabric.journal c.finish_most.result.crew.fabric.journal c.finish_each-crew.ensures.grows c.finish_most.ensures.grows

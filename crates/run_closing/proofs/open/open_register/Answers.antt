@@ -1,4 +1,4 @@
-use Rattle.std.proofs.Common.{sym, subst, length}
+use Rattle.std.proofs.Common.{refl, sym, subst, length}
 use Rattle.legal_journal.specs.Journal.{IsLegal}
 use Rattle.turn_scopes.specs.Seats.{SeatOk}
 use Rattle.node_lines.proofs.Staying.{seat_later}
@@ -21,7 +21,7 @@ returns-clause-rests g c =
     on_ok q.result q.ensures.opens (λ o. (
       h.0,
       subst (λ l. CrewRests p.law r.state r.spells lines (length lines) h.0 l w.looks.items (λ w. w.seat) (λ w. w.desks.items) w.workers.items) (sym o.seen)
-          (crew_read p.law r.state r.spells lines (λ w. w.seat) (λ w. w.desks.items) w.workers.items (length lines) h.0 early o.more w.looks.items h.1
+          (crew_read p.law r.state r.spells lines (λ w. w.seat) (λ w. w.desks.items) w.workers.items (length lines) h.0 early o.more w.looks.items h.1 refl
           (own_more 0 early new o.more q.ensures.watches.since o.seen) (reads_opened w.fabric q.new.fabric o.more o.calls) (subst (IsLegal p.law) o.seen q.ensures.legal)),
     ))
 

@@ -1,10 +1,7 @@
-use Rattle.std.proofs.Common.{◌≡◌, ◌∙◌, ℕ, List, [], ◌∷◌, ◌++◌, sym, ap, subst, refl, Err, Some}
+use Rattle.std.proofs.Common.{◌≡◌, ◌∙◌, ℕ, List, [], ◌∷◌, ◌++◌, sym, ap, refl, Err, Some}
 use Rattle.journal_pair.specs.Journal as pair
-use Rattle.kept_value.specs.View.{View, BeforeOrAfter}
-use Rattle.kept_value.specs.Keeping.{IsKept}
 use Rattle.kept_value.proofs.Laws.{inside, kept_inside, up_inside, during_inside, kept_as, can_as, calm_now, before_left, spelled_now, adding, after_left, left_as, kept_torn, kept_refused}
 use Rattle.kept_value.proofs.kept.Kept.write.Goals as goal
-use Rattle.kept_value.proofs.kept.Kept.write.Goals.{in-Heap-3, in-Inline-3}
 
 pub spell-requires-clause-can : goal.spell-requires-clause-can
 spell-requires-clause-can g c =
@@ -65,9 +62,7 @@ returns-in-Err-Disk-clause-any_crash g c =
     let now_spelled : K.spelled i.journal.records ≡ Some mid = spelled_now K s here k up ∙ ap (λ (t : K.State). Some t) (sym same) in
     let next : K.spelled (i.journal.records ++ c.as_slice.result.now ∷ []) ≡ Some (K.changed s c.args.change) = ap (λ (b : List ℕ). K.spelled (i.journal.records ++ b ∷ [])) c.as_slice.ensures ∙ c.in_ok-bytes.ensures.follows i.journal.records now_spelled ∙ ap (λ (t : K.State). Some (K.changed t c.args.change)) same in
     let front = adding K s here k up c.args.change c.as_slice.result.now c.append.new.self.disk next c.append.ensures.any_crash in
-    let torn : c.match-bytes-2.self ≡ inside c.append.new.self (Some c.args.change) i.stands = elim c.match-bytes-2.branch [ in-Heap-3 w ↦ w.self-is | in-Inline-3 w ↦ w.self-is ] in
-    subst (λ (v : View g.row.V-Change.Denot). pair.AnyCrashLeaves c.args.self.now.journal.disk v.journal.disk (BeforeOrAfter K s c.args.change)) (sym torn)
-    (during_inside K s c.args.change here c.args.self.now c.append.new.self.disk c.self.view_is front)
+    during_inside K s c.args.change here c.args.self.now c.append.new.self.disk c.self.view_is front
 
 pub returns-in-Err-Memory-clause-any_crash : goal.returns-in-Err-Memory-clause-any_crash
 returns-in-Err-Memory-clause-any_crash g c =
@@ -98,9 +93,7 @@ returns-in-Err-Disk-clause-kept g c =
     let bytes = c.in_ok-bytes.bytes in
     let now_spelled : K.spelled i.journal.records ≡ Some mid = spelled_now K s here k up ∙ ap (λ (t : K.State). Some t) (sym same) in
     let next : K.spelled (i.journal.records ++ c.as_slice.result.now ∷ []) ≡ Some (K.changed s c.args.change) = ap (λ (b : List ℕ). K.spelled (i.journal.records ++ b ∷ [])) c.as_slice.ensures ∙ c.in_ok-bytes.ensures.follows i.journal.records now_spelled ∙ ap (λ (t : K.State). Some (K.changed t c.args.change)) same in
-    let torn : c.match-bytes-2.self ≡ inside c.append.new.self (Some c.args.change) i.stands = elim c.match-bytes-2.branch [ in-Heap-3 w ↦ w.self-is | in-Inline-3 w ↦ w.self-is ] in
-    subst (IsKept K mid) (sym torn)
-    (kept_as K s mid (inside c.append.new.self (Some c.args.change) i.stands) same (kept_torn K s here k up c.args.change c.as_slice.result.now c.append.new.self next c.requires.can (c.append.ensures.disk (c.in-Err-Disk.is ∙ ap Err c.in-Err-Disk.field-0-is)).0 c.append.ensures.survives))
+    kept_as K s mid (inside c.append.new.self (Some c.args.change) i.stands) same (kept_torn K s here k up c.args.change c.as_slice.result.now c.append.new.self next c.requires.can (c.append.ensures.disk (c.in-Err-Disk.is ∙ ap Err c.in-Err-Disk.field-0-is)).0 c.append.ensures.survives)
 
 pub returns-in-Err-Memory-clause-kept : goal.returns-in-Err-Memory-clause-kept
 returns-in-Err-Memory-clause-kept g c =

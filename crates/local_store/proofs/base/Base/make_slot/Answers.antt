@@ -1,7 +1,7 @@
 use Rattle.std.proofs.Common.{◌≡◌, None, sym, subst, length, ◌^◌, ◌<◌}
 use Rattle.local_store.specs.declared.key.SpaceKey.{SpaceKey}
 use Rattle.local_store.specs.Slots.{slot_of}
-use Rattle.local_store.proofs.SlotLaws.{no_slot, held-same, grows-set, short-set}
+use Rattle.local_store.proofs.SlotLaws.{no_slot, held-same, grows-set, fit-set}
 use Rattle.local_store.proofs.base.Base.make_slot.Goals as goal
 
 pub returns-clause-same : goal.returns-clause-same
@@ -13,7 +13,7 @@ returns-clause-same c =
 pub returns-clause-grows : goal.returns-clause-grows
 returns-clause-grows c = grows-set c.args.self.now.slots.entries c.insert.new.self.entries c.in_ok-key.key None c.in_ok-insert.ensures.updates.0
 
-pub returns-clause-short : goal.returns-clause-short
-returns-clause-short c =
-    short-set c.args.self.now.slots.entries c.insert.new.self.entries c.in_ok-key.key None c.requires.old
-    (subst (λ (k : SpaceKey). length k.key < 2 ^ 16) (sym c.in_ok-key.ensures.cases) c.requires.short) c.in_ok-insert.ensures.updates.0
+pub returns-clause-fit : goal.returns-clause-fit
+returns-clause-fit c =
+    fit-set c.args.self.now.slots.entries c.insert.new.self.entries c.in_ok-key.key None c.requires.old
+    (subst (λ (k : SpaceKey). length k.key < 2 ^ 16) (sym c.in_ok-key.ensures.cases) c.requires.short) tt c.in_ok-insert.ensures.updates.0

@@ -1,104 +1,208 @@
-use Rattle.std.proofs.Common.{◌≡◌, ◌⊎◌, ◌≤◌, ℕ, false, List, [], ◌∷◌, ◌++◌, Some, Err, refl, sym, ap, subst, ◌∙◌}
+use Rattle.std.proofs.Common.{◌≡◌, ◌≤◌, ◌∙◌, false, true, Err, Some, None, List, refl, sym, ap, subst}
 use Rattle.std.specs.Prelude.{is_ok}
 use Rattle.std.specs.Arc.{arc_value}
-use Rattle.local_store.specs.declared.store.Asked.{Asked}
-use Rattle.disk_model.specs.Crash.{AnyCrash}
-use Rattle.journal_core.specs.Records.{records_of}
-use Rattle.journal_core.specs.Journal as journal
+use Rattle.kept_value.specs.View as value
 use Rattle.store_records.specs.declared.change.Change.{Change}
-use Rattle.store_records.specs.Format.{SpellsCommit}
-use Rattle.local_store.specs.View.{View, txn_commit}
-use Rattle.local_store.proofs.Keeping.{seen_survives, kept_survives, kept_durable, stays_during, during, kept_committed, kept_failed}
+use Rattle.store_records.specs.declared.change.Commit.{Commit}
+use Rattle.store_records.specs.Spelled.{Saved, committed}
+use Rattle.local_store.specs.declared.asked.Asked.{Asked}
+use Rattle.local_store.specs.View.{View, txn_commit, saved_in, CountsWrites}
+use Rattle.local_store.specs.Keeping.{saved_by, asked_of, commit_of_asked}
+use Rattle.disk_model.specs.Disk.{Rose}
+use Rattle.local_store.proofs.Keeping.{seen_survives, kept_survives, kept_durable, stays_during, during, same_saved, made_fit, made_kept, kept_now, seen_with, seen_before, counts_writes}
 use Rattle.local_store.proofs.store.Store.commit.Goals as goal
+
+pub write-requires-clause-sound : goal.write-requires-clause-sound
+write-requires-clause-sound g c = made_fit (arc_value c.self.inside.base) c.in_ok-base.base.now c.in_ok-base.ensures.value c.self.invariant.fit
+
+pub write-requires-clause-kept : goal.write-requires-clause-kept
+write-requires-clause-kept g c = made_kept (arc_value c.self.inside.base) c.in_ok-base.base.now c.self.inside.kept c.in_ok-base.ensures.value c.self.invariant
+
+pub write-requires-clause-can : goal.write-requires-clause-can
+write-requires-clause-can g c =
+    let made = c.in_ok-base.base.now in
+    let same : saved_by made ≡ saved_in c.args.self.now = seen_before (arc_value c.self.inside.base) made c.self.inside.kept c.args.self.now c.in_ok-base.ensures.value c.self.view_is in
+    record { rises = subst (λ (s : Saved). s.cursor ≤ c.args.cursor) (sym same) c.requires; fit = c.into_changes-changes.ensures.fit }
+
+-- ---- it is down, or memory is wanting for a space of its own
 
 pub returns-then-is_shut-clause-any_crash : goal.returns-then-is_shut-clause-any_crash
 returns-then-is_shut-clause-any_crash g c =
     let i = c.self.inside in
-    stays_during c.args.self.now (txn_commit c.args.cursor c.args.txn) c.args.self.now.disk (refl) (seen_survives (arc_value i.base).slots.entries i.cursor i.asked i.journal c.args.self.now c.self.invariant c.self.view_is)
-
-pub returns-in_err-bytes-clause-any_crash : goal.returns-in_err-bytes-clause-any_crash
-returns-in_err-bytes-clause-any_crash g c =
-    let i = c.self.inside in
-    stays_during c.args.self.now (txn_commit c.args.cursor c.args.txn) c.args.self.now.disk (refl) (seen_survives (arc_value i.base).slots.entries i.cursor i.asked i.journal c.args.self.now c.self.invariant c.self.view_is)
+    stays_during c.args.self.now (txn_commit c.args.cursor c.args.txn) c.args.self.now.disk refl (seen_survives (arc_value i.base) i.kept c.args.self.now c.self.invariant c.self.view_is)
 
 pub returns-in_err-base-clause-any_crash : goal.returns-in_err-base-clause-any_crash
 returns-in_err-base-clause-any_crash g c =
     let i = c.self.inside in
-    stays_during c.args.self.now (txn_commit c.args.cursor c.args.txn) i.journal.disk (ap (λ (v : View). v.disk.timeline) c.self.view_is) (seen_survives (arc_value i.base).slots.entries i.cursor i.asked i.journal c.args.self.now c.self.invariant c.self.view_is)
+    stays_during c.args.self.now (txn_commit c.args.cursor c.args.txn) i.kept.journal.disk (ap (λ (v : View). v.disk.timeline) c.self.view_is) (seen_survives (arc_value i.base) i.kept c.args.self.now c.self.invariant c.self.view_is)
 
-pub returns-in_err-make_room-clause-any_crash : goal.returns-in_err-make_room-clause-any_crash
-returns-in_err-make_room-clause-any_crash g c =
-    let i = c.self.inside in
-    stays_during c.args.self.now (txn_commit c.args.cursor c.args.txn) i.journal.disk (ap (λ (v : View). v.disk.timeline) c.self.view_is) (seen_survives (arc_value i.base).slots.entries i.cursor i.asked i.journal c.args.self.now c.self.invariant c.self.view_is)
+-- ---- the transaction is kept
 
-pub invariant_of-self-in-Ok-1 : goal.invariant_of-self-in-Ok-1
-invariant_of-self-in-Ok-1 g c =
+pub invariant_of-self-in-Ok : goal.invariant_of-self-in-Ok
+invariant_of-self-in-Ok g c =
     let i = c.self.inside in
-    let up : i.journal.shut ≡ false = sym c.is_shut.ensures ∙ c.if-is_shut.false in
-    let le : i.cursor ≤ c.args.cursor = subst (λ (v : View). v.cursor ≤ c.args.cursor) (sym c.self.view_is) c.requires in
-    (kept_committed (arc_value i.base) c.in_ok-base.base.now c.make_room.new.self c.change.new.self (arc_value (c.make_mut.follows.lender c.change.new.self)) i.cursor c.args.cursor i.asked c.into_changes-changes.result.entries c.in_ok-bytes.bytes.items c.as_slice.result.now i.journal c.append.new.self
-    c.self.invariant up le c.in_ok-bytes.ensures c.in_ok-base.ensures.value c.in_ok-make_room.ensures.same c.in_ok-make_room.ensures.short c.change.ensures.changed c.change.ensures.short c.as_slice.ensures.value c.in-Ok.ensures.ok c.append.ensures.survives (c.make_mut.follows.holds c.change.new.self (ap is_ok c.in_ok-base.was)))
+    let base = arc_value i.base in
+    let made = c.in_ok-base.base.now in
+    let is = c.in_ok-base.ensures.value in
+    let b = c.write.new.value in
+    let last = arc_value (c.make_mut.follows.lender b) in
+    let end : last ≡ b = c.make_mut.follows.holds b (ap is_ok c.in_ok-base.was) in
+    kept_now last b c.write.new.self end c.write.ensures.sound c.write.ensures.kept
 
-pub invariant_of-self-in-Disk-1 : goal.invariant_of-self-in-Disk-1
-invariant_of-self-in-Disk-1 g c =
+pub invariant_of-self-in-Err-Disk : goal.invariant_of-self-in-Err-Disk
+invariant_of-self-in-Err-Disk g c =
     let i = c.self.inside in
-    let up : i.journal.shut ≡ false = sym c.is_shut.ensures ∙ c.if-is_shut.false in
-    let le : i.cursor ≤ c.args.cursor = subst (λ (v : View). v.cursor ≤ c.args.cursor) (sym c.self.view_is) c.requires in
-    let asked : Asked = record { cursor = c.args.cursor; changes = c.into_changes-changes.result } in
-    (kept_failed (arc_value i.base) c.in_ok-base.base.now c.make_room.new.self (arc_value (c.make_mut.follows.lender c.make_room.new.self)) i.cursor i.asked asked c.in_ok-bytes.bytes.items c.as_slice.result.now i.journal c.append.new.self
-    c.self.invariant up le c.in_ok-bytes.ensures c.in_ok-base.ensures.value c.in_ok-make_room.ensures.same c.in_ok-make_room.ensures.short c.in_ok-make_room.ensures.room c.as_slice.ensures.value
-    (c.append.ensures.disk (c.in-Err-Disk.is ∙ ap (λ e. Err e) c.in-Err-Disk.field-0-is)).0 c.append.ensures.survives (c.make_mut.follows.holds c.make_room.new.self (ap is_ok c.in_ok-base.was)))
+    let base = arc_value i.base in
+    let made = c.in_ok-base.base.now in
+    let is = c.in_ok-base.ensures.value in
+    let b = c.write.new.value in
+    let last = arc_value (c.make_mut.follows.lender b) in
+    let end : last ≡ b = c.make_mut.follows.holds b (ap is_ok c.in_ok-base.was) in
+    kept_now last b c.write.new.self end c.write.ensures.sound c.write.ensures.kept
 
-pub returns-in-Ok-clause-durable : goal.returns-in-Ok-clause-durable
-returns-in-Ok-clause-durable g c =
+pub invariant_of-self-in-Err-Memory : goal.invariant_of-self-in-Err-Memory
+invariant_of-self-in-Err-Memory g c =
     let i = c.self.inside in
-    let up : i.journal.shut ≡ false = sym c.is_shut.ensures ∙ c.if-is_shut.false in
-    let le : i.cursor ≤ c.args.cursor = subst (λ (v : View). v.cursor ≤ c.args.cursor) (sym c.self.view_is) c.requires in
-    kept_durable (arc_value (c.make_mut.follows.lender c.change.new.self)).slots.entries c.args.cursor i.asked c.append.new.self
-    (kept_committed (arc_value i.base) c.in_ok-base.base.now c.make_room.new.self c.change.new.self (arc_value (c.make_mut.follows.lender c.change.new.self)) i.cursor c.args.cursor i.asked c.into_changes-changes.result.entries c.in_ok-bytes.bytes.items c.as_slice.result.now i.journal c.append.new.self
-    c.self.invariant up le c.in_ok-bytes.ensures c.in_ok-base.ensures.value c.in_ok-make_room.ensures.same c.in_ok-make_room.ensures.short c.change.ensures.changed c.change.ensures.short c.as_slice.ensures.value c.in-Ok.ensures.ok c.append.ensures.survives (c.make_mut.follows.holds c.change.new.self (ap is_ok c.in_ok-base.was)))
-    (ap (λ (v : journal.View). v.shut) c.in-Ok.ensures.ok)
+    let base = arc_value i.base in
+    let made = c.in_ok-base.base.now in
+    let is = c.in_ok-base.ensures.value in
+    let b = c.write.new.value in
+    let last = arc_value (c.make_mut.follows.lender b) in
+    let end : last ≡ b = c.make_mut.follows.holds b (ap is_ok c.in_ok-base.was) in
+    kept_now last b c.write.new.self end c.write.ensures.sound c.write.ensures.kept
 
 pub returns-in-Ok-clause-any_crash : goal.returns-in-Ok-clause-any_crash
 returns-in-Ok-clause-any_crash g c =
     let i = c.self.inside in
-    let le : i.cursor ≤ c.args.cursor = subst (λ (v : View). v.cursor ≤ c.args.cursor) (sym c.self.view_is) c.requires in
-    let spelled : SpellsCommit c.in_ok-bytes.bytes.items (txn_commit c.args.cursor c.args.txn) = subst (λ (l : List Change). SpellsCommit c.in_ok-bytes.bytes.items (record { cursor = c.args.cursor; changes = l })) c.into_changes-changes.ensures.changes c.in_ok-bytes.ensures in
-    during (arc_value i.base).slots.entries i.cursor i.asked i.journal c.args.self.now (txn_commit c.args.cursor c.args.txn) c.in_ok-bytes.bytes.items c.append.new.self.disk c.self.invariant c.self.view_is le spelled
-    (subst (λ (b : List ℕ). AnyCrash i.journal.disk.timeline c.append.new.self.disk.timeline (λ d. journal.MayFind i.journal (records_of d) ⊎ (records_of d ≡ i.journal.records ++ b ∷ []))) c.as_slice.ensures.value c.append.ensures.any_crash)
+    let base = arc_value i.base in
+    let made = c.in_ok-base.base.now in
+    let asked : Asked = record { cursor = c.args.cursor; changes = c.into_changes-changes.result } in
+    let commit : commit_of_asked asked ≡ txn_commit c.args.cursor c.args.txn =
+    ap (λ (l : List Change). record { cursor = c.args.cursor; changes = l }) c.into_changes-changes.ensures.changes in
+    during base i.kept c.args.self.now (saved_by made) asked (txn_commit c.args.cursor c.args.txn) c.write.new.self.journal.disk c.self.view_is (same_saved base made c.in_ok-base.ensures.value) commit c.write.ensures.any_crash
 
 pub returns-in-Ok-clause-survives : goal.returns-in-Ok-clause-survives
 returns-in-Ok-clause-survives g c =
     let i = c.self.inside in
-    let up : i.journal.shut ≡ false = sym c.is_shut.ensures ∙ c.if-is_shut.false in
-    let le : i.cursor ≤ c.args.cursor = subst (λ (v : View). v.cursor ≤ c.args.cursor) (sym c.self.view_is) c.requires in
-    kept_survives (arc_value (c.make_mut.follows.lender c.change.new.self)).slots.entries c.args.cursor i.asked c.append.new.self
-    (kept_committed (arc_value i.base) c.in_ok-base.base.now c.make_room.new.self c.change.new.self (arc_value (c.make_mut.follows.lender c.change.new.self)) i.cursor c.args.cursor i.asked c.into_changes-changes.result.entries c.in_ok-bytes.bytes.items c.as_slice.result.now i.journal c.append.new.self
-    c.self.invariant up le c.in_ok-bytes.ensures c.in_ok-base.ensures.value c.in_ok-make_room.ensures.same c.in_ok-make_room.ensures.short c.change.ensures.changed c.change.ensures.short c.as_slice.ensures.value c.in-Ok.ensures.ok c.append.ensures.survives (c.make_mut.follows.holds c.change.new.self (ap is_ok c.in_ok-base.was)))
+    let base = arc_value i.base in
+    let made = c.in_ok-base.base.now in
+    let is = c.in_ok-base.ensures.value in
+    let b = c.write.new.value in
+    let last = arc_value (c.make_mut.follows.lender b) in
+    let end : last ≡ b = c.make_mut.follows.holds b (ap is_ok c.in_ok-base.was) in
+    kept_survives last c.write.new.self (kept_now last b c.write.new.self end c.write.ensures.sound c.write.ensures.kept)
+
+pub returns-in-Ok-clause-durable : goal.returns-in-Ok-clause-durable
+returns-in-Ok-clause-durable g c =
+    let i = c.self.inside in
+    let base = arc_value i.base in
+    let made = c.in_ok-base.base.now in
+    let is = c.in_ok-base.ensures.value in
+    let b = c.write.new.value in
+    let last = arc_value (c.make_mut.follows.lender b) in
+    let end : last ≡ b = c.make_mut.follows.holds b (ap is_ok c.in_ok-base.was) in
+    kept_durable last c.write.new.self (kept_now last b c.write.new.self end c.write.ensures.sound c.write.ensures.kept) c.in-Ok.ensures.ok.2
+
+pub returns-in-Ok-clause-ok : goal.returns-in-Ok-clause-ok
+returns-in-Ok-clause-ok g c =
+    let i = c.self.inside in
+    let base = arc_value i.base in
+    let made = c.in_ok-base.base.now in
+    let is = c.in_ok-base.ensures.value in
+    let b = c.write.new.value in
+    let last = arc_value (c.make_mut.follows.lender b) in
+    let end : last ≡ b = c.make_mut.follows.holds b (ap is_ok c.in_ok-base.was) in
+    let same : saved_by made ≡ saved_in c.args.self.now = seen_before base made i.kept c.args.self.now is c.self.view_is in
+    let asked : Asked = record { cursor = c.args.cursor; changes = c.into_changes-changes.result } in
+    let commit : commit_of_asked asked ≡ txn_commit c.args.cursor c.args.txn =
+    ap (λ (l : List Change). record { cursor = c.args.cursor; changes = l }) c.into_changes-changes.ensures.changes in
+    let ok = c.in-Ok.ensures.ok in
+    seen_with last b c.write.new.self (committed (saved_in c.args.self.now) (txn_commit c.args.cursor c.args.txn)) None false end
+    (ok.0 ∙ ap (λ (s : Saved). committed s (commit_of_asked asked)) same ∙ ap (λ (x : Commit). committed (saved_in c.args.self.now) x) commit)
+    (ap (λ (k : value.View Asked). asked_of k.asked) ok.1) ok.2
+
+pub returns-in-Ok-clause-counted : goal.returns-in-Ok-clause-counted
+returns-in-Ok-clause-counted g c =
+    let i = c.self.inside in
+    let up : i.kept.journal.shut ≡ false = sym c.is_shut.ensures ∙ c.if-is_shut.false in
+    subst (λ (v : View). CountsWrites v.disk c.write.new.self.journal.disk) c.self.view_is
+    (counts_writes (saved_by (arc_value i.base)) i.kept c.write.new.self c.self.invariant.kept up c.in-Ok.ensures.one_more c.in-Ok.ensures.six_writes)
+
+-- ---- the disk failed
 
 pub returns-in-Err-Disk-clause-any_crash : goal.returns-in-Err-Disk-clause-any_crash
 returns-in-Err-Disk-clause-any_crash g c =
     let i = c.self.inside in
-    let le : i.cursor ≤ c.args.cursor = subst (λ (v : View). v.cursor ≤ c.args.cursor) (sym c.self.view_is) c.requires in
-    let spelled : SpellsCommit c.in_ok-bytes.bytes.items (txn_commit c.args.cursor c.args.txn) = subst (λ (l : List Change). SpellsCommit c.in_ok-bytes.bytes.items (record { cursor = c.args.cursor; changes = l })) c.into_changes-changes.ensures.changes c.in_ok-bytes.ensures in
-    during (arc_value i.base).slots.entries i.cursor i.asked i.journal c.args.self.now (txn_commit c.args.cursor c.args.txn) c.in_ok-bytes.bytes.items c.append.new.self.disk c.self.invariant c.self.view_is le spelled
-    (subst (λ (b : List ℕ). AnyCrash i.journal.disk.timeline c.append.new.self.disk.timeline (λ d. journal.MayFind i.journal (records_of d) ⊎ (records_of d ≡ i.journal.records ++ b ∷ []))) c.as_slice.ensures.value c.append.ensures.any_crash)
+    let base = arc_value i.base in
+    let made = c.in_ok-base.base.now in
+    let asked : Asked = record { cursor = c.args.cursor; changes = c.into_changes-changes.result } in
+    let commit : commit_of_asked asked ≡ txn_commit c.args.cursor c.args.txn =
+    ap (λ (l : List Change). record { cursor = c.args.cursor; changes = l }) c.into_changes-changes.ensures.changes in
+    during base i.kept c.args.self.now (saved_by made) asked (txn_commit c.args.cursor c.args.txn) c.write.new.self.journal.disk c.self.view_is (same_saved base made c.in_ok-base.ensures.value) commit c.write.ensures.any_crash
 
 pub returns-in-Err-Disk-clause-survives : goal.returns-in-Err-Disk-clause-survives
 returns-in-Err-Disk-clause-survives g c =
     let i = c.self.inside in
-    let up : i.journal.shut ≡ false = sym c.is_shut.ensures ∙ c.if-is_shut.false in
-    let le : i.cursor ≤ c.args.cursor = subst (λ (v : View). v.cursor ≤ c.args.cursor) (sym c.self.view_is) c.requires in
+    let base = arc_value i.base in
+    let made = c.in_ok-base.base.now in
+    let is = c.in_ok-base.ensures.value in
+    let b = c.write.new.value in
+    let last = arc_value (c.make_mut.follows.lender b) in
+    let end : last ≡ b = c.make_mut.follows.holds b (ap is_ok c.in_ok-base.was) in
+    kept_survives last c.write.new.self (kept_now last b c.write.new.self end c.write.ensures.sound c.write.ensures.kept)
+
+pub returns-in-Err-Disk-clause-disk : goal.returns-in-Err-Disk-clause-disk
+returns-in-Err-Disk-clause-disk g c =
+    let i = c.self.inside in
+    let base = arc_value i.base in
+    let made = c.in_ok-base.base.now in
+    let is = c.in_ok-base.ensures.value in
+    let b = c.write.new.value in
+    let last = arc_value (c.make_mut.follows.lender b) in
+    let end : last ≡ b = c.make_mut.follows.holds b (ap is_ok c.in_ok-base.was) in
+    let same : saved_by made ≡ saved_in c.args.self.now = seen_before base made i.kept c.args.self.now is c.self.view_is in
     let asked : Asked = record { cursor = c.args.cursor; changes = c.into_changes-changes.result } in
-    kept_survives (arc_value (c.make_mut.follows.lender c.make_room.new.self)).slots.entries i.cursor (Some asked) c.append.new.self
-    (kept_failed (arc_value i.base) c.in_ok-base.base.now c.make_room.new.self (arc_value (c.make_mut.follows.lender c.make_room.new.self)) i.cursor i.asked asked c.in_ok-bytes.bytes.items c.as_slice.result.now i.journal c.append.new.self
-    c.self.invariant up le c.in_ok-bytes.ensures c.in_ok-base.ensures.value c.in_ok-make_room.ensures.same c.in_ok-make_room.ensures.short c.in_ok-make_room.ensures.room c.as_slice.ensures.value
-    (c.append.ensures.disk (c.in-Err-Disk.is ∙ ap (λ e. Err e) c.in-Err-Disk.field-0-is)).0 c.append.ensures.survives (c.make_mut.follows.holds c.make_room.new.self (ap is_ok c.in_ok-base.was)))
+    let commit : commit_of_asked asked ≡ txn_commit c.args.cursor c.args.txn =
+    ap (λ (l : List Change). record { cursor = c.args.cursor; changes = l }) c.into_changes-changes.ensures.changes in
+    let failed = c.write.ensures.disk (c.in-Err-Disk.is ∙ ap Err c.in-Err-Disk.field-0-is) in
+    λ _. (
+      seen_with last b c.write.new.self (saved_in c.args.self.now) (Some (txn_commit c.args.cursor c.args.txn)) true end (failed.0 ∙ same) (ap asked_of failed.1 ∙ ap Some commit) failed.2,
+      subst (λ (v : View). Rose v.disk.faults c.write.new.self.journal.disk.faults) c.self.view_is failed.3,
+    )
+
+-- ---- memory was wanting
 
 pub returns-in-Err-Memory-clause-any_crash : goal.returns-in-Err-Memory-clause-any_crash
 returns-in-Err-Memory-clause-any_crash g c =
     let i = c.self.inside in
-    let le : i.cursor ≤ c.args.cursor = subst (λ (v : View). v.cursor ≤ c.args.cursor) (sym c.self.view_is) c.requires in
-    let spelled : SpellsCommit c.in_ok-bytes.bytes.items (txn_commit c.args.cursor c.args.txn) = subst (λ (l : List Change). SpellsCommit c.in_ok-bytes.bytes.items (record { cursor = c.args.cursor; changes = l })) c.into_changes-changes.ensures.changes c.in_ok-bytes.ensures in
-    during (arc_value i.base).slots.entries i.cursor i.asked i.journal c.args.self.now (txn_commit c.args.cursor c.args.txn) c.in_ok-bytes.bytes.items c.append.new.self.disk c.self.invariant c.self.view_is le spelled
-    (subst (λ (b : List ℕ). AnyCrash i.journal.disk.timeline c.append.new.self.disk.timeline (λ d. journal.MayFind i.journal (records_of d) ⊎ (records_of d ≡ i.journal.records ++ b ∷ []))) c.as_slice.ensures.value c.append.ensures.any_crash)
+    let base = arc_value i.base in
+    let made = c.in_ok-base.base.now in
+    let asked : Asked = record { cursor = c.args.cursor; changes = c.into_changes-changes.result } in
+    let commit : commit_of_asked asked ≡ txn_commit c.args.cursor c.args.txn =
+    ap (λ (l : List Change). record { cursor = c.args.cursor; changes = l }) c.into_changes-changes.ensures.changes in
+    during base i.kept c.args.self.now (saved_by made) asked (txn_commit c.args.cursor c.args.txn) c.write.new.self.journal.disk c.self.view_is (same_saved base made c.in_ok-base.ensures.value) commit c.write.ensures.any_crash
+
+pub returns-in-Err-Memory-clause-survives : goal.returns-in-Err-Memory-clause-survives
+returns-in-Err-Memory-clause-survives g c =
+    let i = c.self.inside in
+    let base = arc_value i.base in
+    let made = c.in_ok-base.base.now in
+    let is = c.in_ok-base.ensures.value in
+    let b = c.write.new.value in
+    let last = arc_value (c.make_mut.follows.lender b) in
+    let end : last ≡ b = c.make_mut.follows.holds b (ap is_ok c.in_ok-base.was) in
+    kept_survives last c.write.new.self (kept_now last b c.write.new.self end c.write.ensures.sound c.write.ensures.kept)
+
+pub returns-in-Err-Memory-clause-memory : goal.returns-in-Err-Memory-clause-memory
+returns-in-Err-Memory-clause-memory g c =
+    let i = c.self.inside in
+    let base = arc_value i.base in
+    let made = c.in_ok-base.base.now in
+    let is = c.in_ok-base.ensures.value in
+    let b = c.write.new.value in
+    let last = arc_value (c.make_mut.follows.lender b) in
+    let end : last ≡ b = c.make_mut.follows.holds b (ap is_ok c.in_ok-base.was) in
+    let same : saved_by made ≡ saved_in c.args.self.now = seen_before base made i.kept c.args.self.now is c.self.view_is in
+    let failed = c.write.ensures.memory (c.in-Err-Memory.is ∙ ap Err c.in-Err-Memory.field-0-is) in
+    λ _. seen_with last b c.write.new.self (saved_in c.args.self.now) c.args.self.now.asked c.args.self.now.down end (failed.0 ∙ same)
+    (ap (λ (k : value.View Asked). asked_of k.asked) failed.1 ∙ ap (λ (v : View). v.asked) c.self.view_is) (ap (λ (k : value.View Asked). k.journal.shut) failed.1 ∙ ap (λ (v : View). v.down) c.self.view_is)

@@ -1,0 +1,155 @@
+-- What a node told of itself lines asked it to tell, still as its course goes on.
+use Rattle.std.proofs.Common.{◌≡◌, sym, ap, subst, ◌⊎◌, inl, inr, ⊎_elim, ℕ, ◌+◌, ◌<◌, ◌≤◌, List, [], ◌∷◌, Option, Contains, arith}
+use Rattle.delos_types.specs.declared.entry.Entry.{Entry}
+use Rattle.legal_journal.specs.Law.{Law}
+use Rattle.legal_journal.specs.declared.events.Event.{Event}
+use Rattle.legal_journal.specs.Journal.{IsLegal, state_of, tail_of}
+use Rattle.journal_laws.specs.Changes.{appended}
+use Rattle.journal_laws.proofs.Changes.{appended_stays}
+use Rattle.engine_api.specs.declared.content.Content.{Content}
+use Rattle.engine_api.specs.declared.content.Content.TheVariants as content
+use Rattle.engine_api.specs.declared.content.Placed.{Placed}
+use Rattle.engine_api.specs.Items.{unpack}
+use Rattle.turn_scopes.specs.Alone.{OwnSince}
+use Rattle.script_text.specs.declared.line.Admin.{Admin}
+use Rattle.script_text.specs.declared.asks.NamedLine.{NamedLine}
+use Rattle.node_lines.specs.declared.lines.Looked.{Looked}
+use Rattle.node_lines.specs.declared.lines.Looked.TheVariants as looked
+use Rattle.node_lines.specs.Workers.{Grows, IsCommand, IsOfSessions, IsReported, IsSaid, MayRun, OwnAdds, ReportsUpTo, SaysAlone, appended_by}
+use Rattle.node_lines.proofs.Own.{own_appended, reported_by}
+use Rattle.run_laws.proofs.Members.{Among, all-at, among-map, contained-among}
+use Rattle.node_course.specs.Moments.{NodeCourse, moment, tails}
+use Rattle.node_course.specs.Played.{Came}
+use Rattle.node_course.specs.Reporting.{StandsThere}
+use Rattle.node_course.specs.Telling.{AreBehind, AreTold, AskedFor, HasToldSo, IsBehind, IsTrim, KeepsBehind, ToldSo}
+use Rattle.node_course.proofs.Looks.{CameOn}
+use Rattle.node_course.proofs.Keeping.{behind_command, keeps_on}
+use Rattle.node_course.proofs.Stands.{behind_on, front_on, stands_on, trim_rises}
+use Rattle.node_course.proofs.Growing.{Grown, legal_then}
+
+-- Entries
+
+-- what an entry says that says nothing else
+pub alone_is : (c : Content) (e : Entry) (p : Placed) → SaysAlone c e → Contains (unpack 0 e) p → p.content ≡ c
+alone_is c e p alone h = only p.content (subst (λ cs. Among cs p.content) alone (among-map (λ (q : Placed). q.content) (unpack 0 e) p (contained-among (unpack 0 e) p h)))
+  where
+    only : (x : Content) → Among (c ∷ []) x → x ≡ c
+    only x (inl same) = sym same
+    only x (inr m) = absurd m
+
+pub command_is : (e : Entry) (p : Placed) → IsOfSessions e → Contains (unpack 0 e) p → IsCommand p.content
+command_is e p all h = all-at (λ (q : Placed). IsCommand q.content) (unpack 0 e) p all (contained-among (unpack 0 e) p h)
+
+-- a report isn't above this cursor
+abbrev pub SaysUpTo : ℕ → Content → Type 0
+SaysUpTo cursor (content.Session s r c) = Unit {0}
+SaysUpTo cursor (content.Alive node position) = position ≤ cursor
+SaysUpTo cursor (content.Leave node) = Unit {0}
+SaysUpTo cursor (content.Trim position) = Unit {0}
+
+-- Lines
+
+asked_on : (lines : List NamedLine) (looks looks' : List (Option Looked)) (n : ℕ) (what : Admin) (P : Looked → Type 0) → CameOn lines looks looks' n → AskedFor lines looks n what P → AskedFor lines looks' n what P
+asked_on lines looks looks' n what P on h = record { at = h.at; line = h.line; look = h.look; came = on h.at h.line h.look h.came; asks = h.asks; so = h.so }
+
+said_on : (old new : List Event) → Grows old new → (c : Content) → IsSaid old c → IsSaid new c
+said_on old new g c h = record {
+  entry = h.entry;
+  appended_is = subst (λ l. Contains (appended l) h.entry) (sym g.1) (appended_stays old g.0 h.entry h.appended_is);
+  placed = h.placed;
+  among = h.among;
+  is = h.is;
+}
+
+pub reported_on : (old new : List Event) → Grows old new → (n : ℕ) → IsReported old n → IsReported new n
+reported_on old new g n (inl none) = inl none
+reported_on old new g n (inr h) = inr (h.0, said_on old new g (content.Alive h.0 n) h.1)
+
+told_command : (lines : List NamedLine) (looks : List (Option Looked)) (journal : List Event) (n cursor : ℕ) (c : Content) → IsCommand c → ToldSo lines looks n journal c × SaysUpTo cursor c
+told_command lines looks journal n cursor (content.Session s r x) h = (tt, tt)
+told_command lines looks journal n cursor (content.Alive node position) h = absurd h
+told_command lines looks journal n cursor (content.Leave node) h = absurd h
+told_command lines looks journal n cursor (content.Trim position) h = absurd h
+
+-- What was told by a node since: only what lines asked it to tell.
+pub record TellsOn (lines : List NamedLine) (looks' : List (Option Looked)) (n cursor cursor' : ℕ) (old new : List Event) : Type 0 where
+  pub told : AreTold lines looks' n new
+  pub own : ReportsUpTo n cursor old → ReportsUpTo n cursor' new
+  pub stays : KeepsBehind n old → KeepsBehind n new
+
+module _ (law : Law) (old new : List Event) (g : Grows old new) (legal : IsLegal law new) (lines : List NamedLine) (looks looks' : List (Option Looked)) (n : ℕ) (on : CameOn lines looks looks' n) where
+  told_on : (c : Content) → ToldSo lines looks n old c → ToldSo lines looks' n new c
+  told_on (content.Session s r x) h = tt
+  told_on (content.Alive node position) h = (h.0, behind_on law old new g.0 g.1 legal n position h.1, asked_on lines looks looks' n _ _ on h.2)
+  told_on (content.Leave node) h = (h.0, asked_on lines looks looks' n _ _ on h.1)
+  told_on (content.Trim position) h = reported_on old new g position h
+
+  -- where the node appended nothing more
+  pub told_still : AreTold lines looks n old → ((e : Entry) → Contains (appended_by n new) e → Contains (appended_by n old) e) → AreTold lines looks' n new
+  told_still told back = λ e p there among. told_on p.content (told e p (back e there) among)
+
+  module _ (run : MayRun law) (cursor cursor' : ℕ) (up : cursor ≤ cursor') (told : AreTold lines looks n old) where
+    tells_by : (P : Entry → Type 0) → ((e : Entry) (p : Placed) → P e → Contains (unpack 0 e) p → ToldSo lines looks' n new p.content × SaysUpTo cursor' p.content)
+        → ((base : List Event) → Grows old base → OwnSince n base new → AreBehind base → (e : Entry) (p : Placed) → P e → Contains (unpack 0 e) p → IsBehind new p.content) → OwnAdds n P old new → TellsOn lines looks' n cursor cursor' old new
+    tells_by P each stands adds = record {
+      told = λ e p at among. ⊎_elim (λ (was : Contains (appended_by n old) e). told_on p.content (told e p was among)) (λ (now : P e). (each e p now among).0) (adds e at);
+      own = λ was e p at among position is. ⊎_elim
+          (λ (before : Contains (appended_by n old) e). let low = was e p (own_appended n old e before) among position is in omega (arith, low, up))
+          (λ (now : P e). subst (SaysUpTo cursor') is (each e p now among).1)
+          (adds e (reported_by law law run (λ user x k. k) new legal n position e p at among is));
+      stays = keeps_on law n old new g legal P adds stands;
+    }
+
+    pub tells_commands : OwnAdds n IsOfSessions old new → TellsOn lines looks' n cursor cursor' old new
+    tells_commands adds = tells_by IsOfSessions (λ e p all among. told_command lines looks' new n cursor' p.content (command_is e p all among)) (λ base up since was e p all among. behind_command new p.content (command_is e p all among)) adds
+
+    pub tells_one : (c : Content) → ToldSo lines looks' n new c → SaysUpTo cursor' c → ((base : List Event) → Grows old base → OwnSince n base new → AreBehind base → IsBehind new c) → OwnAdds n (λ e. IsOfSessions e ⊎ SaysAlone c e) old new → TellsOn lines looks' n cursor cursor' old new
+    tells_one c so says stands adds = tells_by (λ e. IsOfSessions e ⊎ SaysAlone c e) each behind adds
+      where
+        each : (e : Entry) (p : Placed) → IsOfSessions e ⊎ SaysAlone c e → Contains (unpack 0 e) p → ToldSo lines looks' n new p.content × SaysUpTo cursor' p.content
+        each e p (inl all) among = told_command lines looks' new n cursor' p.content (command_is e p all among)
+        each e p (inr alone) among = let is = sym (alone_is c e p alone among) in (subst (ToldSo lines looks' n new) is so, subst (SaysUpTo cursor') is says)
+
+        behind : (base : List Event) → Grows old base → OwnSince n base new → AreBehind base → (e : Entry) (p : Placed) → IsOfSessions e ⊎ SaysAlone c e → Contains (unpack 0 e) p → IsBehind new p.content
+        behind base up since was e p (inl all) among = behind_command new p.content (command_is e p all among)
+        behind base up since was e p (inr alone) among = subst (IsBehind new) (sym (alone_is c e p alone among)) (stands base up since was)
+
+-- What lines came to
+
+pub stand_on : (old new : List Event) → ((c : Content) → StandsThere old c → StandsThere new c) → (node : ℕ) (look : Looked) → HasToldSo old node look → HasToldSo new node look
+stand_on old new stands node (looked.Found after found) h = tt
+stand_on old new stands node (looked.Kept k) h = tt
+stand_on old new stands node (looked.Failed k) h = tt
+stand_on old new stands node (looked.Extended x) h = tt
+stand_on old new stands node (looked.Reported n) h = stands (content.Alive node n) h
+stand_on old new stands node looked.Left h = stands (content.Leave node) h
+stand_on old new stands node (looked.Trimmed trim) h = tt
+
+-- A trim stands, where no line of the node before it was played since.
+module _ (law : Law) (c c' : NodeCourse) (g : Grown law c c') (lines : List NamedLine) (looks looks' : List (Option Looked)) (nodes n : ℕ) where
+  pub trim_on : (j : ℕ) (l : NamedLine) (trim : ℕ) → l.phase ≤ c.phase → ((i : ℕ) (m : NamedLine) (look : Looked) → Came lines looks' n i m look → i < j → Came lines looks n i m look) → IsTrim lines looks nodes n c j l trim → IsTrim lines looks' nodes n c' j l trim
+  trim_on j l trim low back h = record {
+    lowest = record {
+      node = h.lowest.node;
+      least = h.lowest.least;
+      most = h.lowest.most;
+      stood = λ x there. h.lowest.stood x (subst (λ m. StandsThere m x) (g.past l.phase low) there);
+      own = λ same i m look come before. h.lowest.own same i m look (back i m look come before) before;
+    };
+    upto = let up = trim_rises law c.seen c'.seen g.more g.seen g.legal in omega (arith, h.upto, up);
+    position = h.position;
+    stands = stands_on law c.seen c'.seen g.more g.seen g.legal (content.Trim h.position) h.stands;
+    log = h.log;
+    front = front_on law c.seen c'.seen g.more g.seen g.legal h.log h.front;
+    from =
+        let same : tails c' l.phase ≡ tails c l.phase = ap (λ m. tail_of (state_of m)) (g.past l.phase low) in
+        let met = h.from in
+        omega (arith, same, met);
+    least = h.least;
+  }
+
+  -- what a line came to stood in the log as the next phase began
+  pub stand_then : (l : NamedLine) (look : Looked) → HasToldSo (moment c (l.phase + 1)) n look → HasToldSo (moment c' (l.phase + 1)) n look
+  stand_then l look h =
+      let up = g.later (l.phase + 1) in
+      stand_on (moment c (l.phase + 1)) (moment c' (l.phase + 1)) (λ x s. stands_on law (moment c (l.phase + 1)) (moment c' (l.phase + 1)) up.0 up.1 (legal_then law c c' g (l.phase + 1)) x s) n look h

@@ -1,0 +1,12 @@
+pub mod Script
+pub mod Moments
+pub mod Played
+pub mod Replacing
+pub mod Reporting
+pub mod Leaving
+pub mod Telling
+pub mod Behind
+pub mod Course
+pub mod Desks
+pub mod Workers
+pub mod Joined

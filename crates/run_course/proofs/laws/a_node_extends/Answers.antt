@@ -1,6 +1,0 @@
-use Rattle.run_course.proofs.Extending.{line_extended}
-use Rattle.run_course.proofs.laws.a_node_extends.Goals as goal
-
-pub returns : goal.returns
-returns g c = λ run lines home nodes c' counts looks n from i line look seat seat' desks journal are least most begins at node phase asks_is ok worker since adds high does now.
-    line_extended _ _ _ lines home nodes c' counts looks n from i line look seat seat' desks journal are least most at node phase asks_is ok worker since adds high does now

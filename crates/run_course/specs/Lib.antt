@@ -1,9 +1,0 @@
-pub mod Script
-pub mod Replacing
-pub mod Reporting
-pub mod Leaving
-pub mod Telling
-pub mod Behind
-pub mod Course
-pub mod Desks
-pub mod Workers
