@@ -21,7 +21,11 @@ PAGES = ["README.md", "docs/MANUAL.md", "docs/GUIDE.md", "docs/EMBED.md", "docs/
 LINKED = PAGES + ["docs/PROVED.md", "docs/PLANTED.md", "docs/GLOSSARY.md", "docs/ARCHITECTURE.md"]
 MARK = re.compile(r"^<!-- (run|prints|gate|text|from)(?:, status (\d+))?(?: ([^ :]+): (.*?))? -->$")
 LINK = re.compile(r"\]\(([^)#\s]+)(?:#[^)]*)?\)")
-SECONDS = 1800
+SECONDS = 7200
+# How many seconds `rt try` gives a command, which takes one: the sixty that it gives by itself don't do on a machine that is full.
+ANSWERS = 600
+# What `rt try --cases` says of a case: its line, and above it the ends of what was printed, what differs, or why there is no end.
+CASE = re.compile(r"(.*?^case=case(\d+) [^\n]*)\n", re.MULTILINE | re.DOTALL)
 # Stands for the program, or for `rt try`, as a page is read: it notes its words and its standard input, and prints nothing.
 NOTE = """#!/bin/sh
 [ "$(basename "$0")" = delos_sim ] || while [ $# -gt 0 ] && [ "$1" != -- ]; do shift; done
@@ -156,15 +160,27 @@ def run_cases(blocks, work, faults):
         shell(block, work, {"DOCS_CASE": case})
         with open(case + ".stdout", "w", encoding="utf-8") as it:
             it.write(block.prints or "")
-    done = subprocess.run(["rt", "try", "--cases", cases, "--"], cwd=os.path.join(TOP, "crates/delos_sim"), capture_output=True, text=True, timeout=SECONDS)
+    words = ["rt", "try", "--seconds", str(ANSWERS), "--cases", cases, "--"]
+    done = subprocess.run(words, cwd=os.path.join(TOP, "crates/delos_sim"), capture_output=True, text=True, timeout=SECONDS)
     told = done.stdout + done.stderr
+    said = {int(number): text for text, number in CASE.findall(told)}
+    if len(said) < len(blocks):
+        faults.append(f"rt try ended with status {done.returncode} behind {len(said)} of {len(blocks)} commands:\n{told[-2000:]}")
     for at, block in enumerate(blocks):
-        line = re.search(rf"^case=case{at:02} .*status=(\d+).*$", told, re.MULTILINE)
-        if line is None:
-            faults.append(f"{block.where()}: rt try ran nothing:\n{told[-2000:]}")
-        elif "output=expected" not in line.group(0):
-            faults.append(f"{block.where()}: it prints something else:\n{told}")
-        judge(block, line and int(line.group(1)), None, faults)
+        judge_case(block, said.get(at), faults)
+
+
+def judge_case(block, said, faults):
+    """Judges a command by what `rt try` says of its case, if anything. A run that came to no end has no status there."""
+    line = said.rpartition("\n")[2] if said else ""
+    status = re.search(r" run=ended status=(\d+) ", line)
+    if not said:
+        faults.append(f"{block.where()}: it wasn't run")
+    elif not status:
+        faults.append(f"{block.where()}: it came to no end:\n{said}")
+    elif " output=expected " not in line:
+        faults.append(f"{block.where()}: it prints something else:\n{said}")
+    judge(block, status and int(status[1]), None, faults)
 
 
 def check_links(page, faults):

@@ -14,7 +14,7 @@ use Rattle.virtual_log.specs.Turning.{Later, FirstTurn, IsAbove}
 use Rattle.virtual_log.proofs.OneTurn.{later_continues}
 use Rattle.virtual_log.specs.Holding.{IsTrimmed, Stays}
 use Rattle.base_engine.specs.Reading.{IsFront}
-use Rattle.replica_api.specs.Replica.{Saved, ReplicaView, saved_in, MayFind, SpellsOne, Survives, Advances, Advanced, Failed, MayFindDuring, Recovered, armed_by}
+use Rattle.replica_api.specs.Replica.{Meaning, Saved, ReplicaView, saved_in, MayFind, SpellsOne, Survives, Advances, Advanced, Failed, MayFindDuring, Recovered, armed_by}
 use Rattle.base_engine.specs.Following.{IsStateAt, IsAsked, Follows, IsKnown, Reaches, IsAt, IsFound, GoesOn}
 
 push_cases : (log : List Entry) (e x : Entry) (pos : ℕ) → slice_get (log ++ e ∷ []) pos ≡ Some x → (slice_get log pos ≡ Some x) ⊎ ((pos ≡ length log) × (x ≡ e))
@@ -36,25 +36,25 @@ front_push holds seen log e c front size here pos x h =
 
 -- Over one journal
 
-module _ (holds : List Event → ℕ → Entry → Type 0) (state : List Entry → SpaceMap → Type 0) (spells : List ℕ → Saved → Type 0) (seen : List Event) where
-  state_next : (v : ReplicaView) (e : Entry) (next : SpaceMap) (s : Saved) → IsStateAt holds state seen (saved_in v) → holds seen v.cursor e → Advances state v.contents v.cursor e next → s.cursor ≡ v.cursor + 1 → s.contents ≡ next → IsStateAt holds state seen s
+module _ (holds : List Event → ℕ → Entry → Type 0) (meaning : Meaning) (seen : List Event) where
+  state_next : (v : ReplicaView) (e : Entry) (next : SpaceMap) (s : Saved) → IsStateAt holds meaning.state seen (saved_in v) → holds seen v.cursor e → Advances meaning.state v.contents v.cursor e next → s.cursor ≡ v.cursor + 1 → s.contents ≡ next → IsStateAt holds meaning.state seen s
   state_next v e next s h here led at is = record {
     log = h.log ++ e ∷ [];
     size = omega (arith, at, h.size, length-append h.log (e ∷ []));
     front = front_push holds seen h.log e v.cursor h.front h.size here;
-    led = subst (λ m. state (h.log ++ e ∷ []) m) (sym is) (led h.log h.size h.led);
+    led = subst (λ m. meaning.state (h.log ++ e ∷ []) m) (sym is) (led h.log h.size h.led);
   }
 
-  pub found_state : (v : ReplicaView) (s : Saved) → Follows holds state spells seen v → MayFind v s → IsFound holds state seen v.cursor s
+  pub found_state : (v : ReplicaView) (s : Saved) → Follows holds meaning seen v → MayFind v s → IsFound holds meaning.state seen v.cursor s
   found_state v s h (inl same) = record {
-    at = subst (λ x. IsStateAt holds state seen x) (sym same) h.now;
+    at = subst (λ x. IsStateAt holds meaning.state seen x) (sym same) h.now;
     forward = omega (arith, ap (λ (x : Saved). x.cursor) same);
   }
   found_state v s h (inr asked) =
       let k = h.asked s asked in
       record { at = state_next v k.entry s.contents s h.now k.held k.led k.next refl; forward = omega (arith, k.next) }
 
-  pub follows_done : (old new : ReplicaView) (e : Entry) → Follows holds state spells seen old → holds seen old.cursor e → Advanced state old e new → Survives spells new → Follows holds state spells seen new
+  pub follows_done : (old new : ReplicaView) (e : Entry) → Follows holds meaning seen old → holds seen old.cursor e → Advanced meaning.state old e new → Survives meaning.spells new → Follows holds meaning seen new
   follows_done old new e h here a survives = record {
     now = state_next old e new.contents (saved_in new) h.now here a.led a.cursor refl;
     asked = λ s is. absurd (none s is);
@@ -64,17 +64,17 @@ module _ (holds : List Event → ℕ → Entry → Type 0) (state : List Entry �
       none : (s : Saved) → new.asked ≡ Some s → ⊥
       none s is = let no : None ≡ Some s = sym a.none_asked ∙ is in cc
 
-  pub follows_fault : (old new : ReplicaView) (e : Entry) → Follows holds state spells seen old → holds seen old.cursor e → Failed state old e new → Survives spells new → Follows holds state spells seen new
+  pub follows_fault : (old new : ReplicaView) (e : Entry) → Follows holds meaning seen old → holds seen old.cursor e → Failed meaning.state old e new → Survives meaning.spells new → Follows holds meaning seen new
   follows_fault old new e h here f survives = record {
-    now = subst (λ s. IsStateAt holds state seen s) (sym (ap saved_in f.is)) h.now;
+    now = subst (λ s. IsStateAt holds meaning.state seen s) (sym (ap saved_in f.is)) h.now;
     asked = λ s is.
         let both : Some next ≡ Some s = sym (ap (λ (v : ReplicaView). v.asked) f.is) ∙ is in
         let same : next ≡ s = cc in
-        subst (λ n. IsAsked holds state seen n s) (sym (ap saved_in f.is))
+        subst (λ n. IsAsked holds meaning.state seen n s) (sym (ap saved_in f.is))
         (record {
           entry = e;
           held = here;
-          led = subst (Advances state old.contents old.cursor e) (ap (λ (x : Saved). x.contents) same) f.led;
+          led = subst (Advances meaning.state old.contents old.cursor e) (ap (λ (x : Saved). x.contents) same) f.led;
           next = sym (ap (λ (x : Saved). x.cursor) same);
         });
     survives = survives;
@@ -83,7 +83,7 @@ module _ (holds : List Event → ℕ → Entry → Type 0) (state : List Entry �
       next : Saved
       next = record { cursor = old.cursor + 1; contents = f.next }
 
-  pub follows_reopened : (word : ℕ) (old new : ReplicaView) → Follows holds state spells seen old → Recovered word old new → Survives spells new → Follows holds state spells seen new
+  pub follows_reopened : (word : ℕ) (old new : ReplicaView) → Follows holds meaning seen old → Recovered word old new → Survives meaning.spells new → Follows holds meaning seen new
   follows_reopened word old new h r survives = record {
     now = (found_state old (saved_in new) h r.found).at;
     asked = λ s is. absurd (none s is);
@@ -94,29 +94,29 @@ module _ (holds : List Event → ℕ → Entry → Type 0) (state : List Entry �
       none s is = let no : None ≡ Some s = sym r.none_asked ∙ is in cc
 
   -- the disk went on, and nothing else
-  pub follows_same : (old new : ReplicaView) → Follows holds state spells seen old → saved_in new ≡ saved_in old → new.asked ≡ old.asked → Survives spells new → Follows holds state spells seen new
+  pub follows_same : (old new : ReplicaView) → Follows holds meaning seen old → saved_in new ≡ saved_in old → new.asked ≡ old.asked → Survives meaning.spells new → Follows holds meaning seen new
   follows_same old new h same asked survives = record {
-    now = subst (λ s. IsStateAt holds state seen s) (sym same) h.now;
-    asked = λ s is. subst (λ n. IsAsked holds state seen n s) (sym same) (h.asked s (sym asked ∙ is));
+    now = subst (λ s. IsStateAt holds meaning.state seen s) (sym same) h.now;
+    asked = λ s is. subst (λ n. IsAsked holds meaning.state seen n s) (sym same) (h.asked s (sym asked ∙ is));
     survives = survives;
   }
 
   -- its disk is armed
-  pub follows_armed : (v : ReplicaView) (after : ℕ) → Follows holds state spells seen v → Follows holds state spells seen (armed_by v after)
+  pub follows_armed : (v : ReplicaView) (after : ℕ) → Follows holds meaning seen v → Follows holds meaning seen (armed_by v after)
   follows_armed v after h = record { now = h.now; asked = h.asked; survives = h.survives }
 
-  pub found_near : (v : ReplicaView) (s : Saved) → Follows holds state spells seen v → MayFind v s → s.cursor ≤ v.cursor + 1
+  pub found_near : (v : ReplicaView) (s : Saved) → Follows holds meaning seen v → MayFind v s → s.cursor ≤ v.cursor + 1
   found_near v s h (inl same) = omega (arith, ap (λ (x : Saved). x.cursor) same)
   found_near v s h (inr asked) = omega (arith, (h.asked s asked).next)
 
   -- By which entries it went on
 
-  pub goes_none : (old new : Saved) → new ≡ old → GoesOn holds state seen old new
+  pub goes_none : (old new : Saved) → new ≡ old → GoesOn holds meaning.state seen old new
   goes_none old new same =
-      subst (λ x. GoesOn holds state seen old x) (sym same)
-      (record { entries = []; size = omega (arith); held = λ k e at. absurd (cc); led = λ log size h. subst (λ l. state l old.contents) (sym (append-nil log)) h })
+      subst (λ x. GoesOn holds meaning.state seen old x) (sym same)
+      (record { entries = []; size = omega (arith); held = λ k e at. absurd (cc); led = λ log size h. subst (λ l. meaning.state l old.contents) (sym (append-nil log)) h })
 
-  pub goes_one : (old new : Saved) (e : Entry) → holds seen old.cursor e → Advances state old.contents old.cursor e new.contents → new.cursor ≡ old.cursor + 1 → GoesOn holds state seen old new
+  pub goes_one : (old new : Saved) (e : Entry) → holds seen old.cursor e → Advances meaning.state old.contents old.cursor e new.contents → new.cursor ≡ old.cursor + 1 → GoesOn holds meaning.state seen old new
   goes_one old new e here led at = record { entries = e ∷ []; size = omega (arith, at); held = first_held; led = led }
     where
       first_held : (k : ℕ) (x : Entry) → slice_get (e ∷ []) k ≡ Some x → holds seen (old.cursor + k) x
@@ -126,11 +126,11 @@ module _ (holds : List Event → ℕ → Entry → Type 0) (state : List Entry �
           subst (λ i. holds seen i x) first (subst (λ y. holds seen old.cursor y) same here)
       first_held (suc n) x h = absurd (cc)
 
-  pub goes_found : (v : ReplicaView) (s : Saved) → Follows holds state spells seen v → MayFind v s → GoesOn holds state seen (saved_in v) s
+  pub goes_found : (v : ReplicaView) (s : Saved) → Follows holds meaning seen v → MayFind v s → GoesOn holds meaning.state seen (saved_in v) s
   goes_found v s h (inl same) = goes_none (saved_in v) s same
   goes_found v s h (inr asked) = let k = h.asked s asked in goes_one (saved_in v) s k.entry k.held k.led k.next
 
-  pub goes_on : (a b c : Saved) → GoesOn holds state seen a b → GoesOn holds state seen b c → GoesOn holds state seen a c
+  pub goes_on : (a b c : Saved) → GoesOn holds meaning.state seen a b → GoesOn holds meaning.state seen b c → GoesOn holds meaning.state seen a c
   goes_on a b c f g = record {
     entries = f.entries ++ g.entries;
     size = omega (arith, f.size, g.size, length-append f.entries g.entries);
@@ -142,37 +142,37 @@ module _ (holds : List Event → ℕ → Entry → Type 0) (state : List Entry �
         subst (λ i. holds seen i e) here (g.held next.0 e next.2))
         (append_cases f.entries g.entries k e at);
     led = λ log size h.
-        subst (λ l. state l c.contents) (append_assoc log f.entries g.entries)
+        subst (λ l. meaning.state l c.contents) (append_assoc log f.entries g.entries)
         (g.led (log ++ f.entries) (omega (arith, size, f.size, length-append log f.entries)) (f.led log size h));
   }
 
   -- What a crash leaves
 
-  spells_weaker : (P Q : Saved → Type 0) → ((s : Saved) → P s → Q s) → (image : List ℕ) → SpellsOne spells P image → SpellsOne spells Q image
+  spells_weaker : (P Q : Saved → Type 0) → ((s : Saved) → P s → Q s) → (image : List ℕ) → SpellsOne meaning.spells P image → SpellsOne meaning.spells Q image
   spells_weaker P Q w image h = (h.0, h.1, w h.0 h.2)
 
-  pub crash_at_rest : (v : ReplicaView) → Follows holds state spells seen v → AnyCrash v.disk v.disk (SpellsOne spells (IsFound holds state seen v.cursor))
+  pub crash_at_rest : (v : ReplicaView) → Follows holds meaning seen v → AnyCrash v.disk v.disk (SpellsOne meaning.spells (IsFound holds meaning.state seen v.cursor))
   crash_at_rest v h =
-      stays v.disk v.disk (SpellsOne spells (IsFound holds state seen v.cursor)) refl
-      (λ image is. spells_weaker (MayFind v) (IsFound holds state seen v.cursor) (λ s. found_state v s h) image (h.survives image is))
+      stays v.disk v.disk (SpellsOne meaning.spells (IsFound holds meaning.state seen v.cursor)) refl
+      (λ image is. spells_weaker (MayFind v) (IsFound holds meaning.state seen v.cursor) (λ s. found_state v s h) image (h.survives image is))
 
-  pub crash_in_apply : (old new : ReplicaView) (e : Entry) → Follows holds state spells seen old → holds seen old.cursor e → AnyCrash old.disk new.disk (SpellsOne spells (MayFindDuring state old e)) → AnyCrash old.disk new.disk (SpellsOne spells (IsFound holds state seen old.cursor))
-  crash_in_apply old new e h here = weaker old.disk new.disk _ _ (spells_weaker (MayFindDuring state old e) (IsFound holds state seen old.cursor) one)
+  pub crash_in_apply : (old new : ReplicaView) (e : Entry) → Follows holds meaning seen old → holds seen old.cursor e → AnyCrash old.disk new.disk (SpellsOne meaning.spells (MayFindDuring meaning.state old e)) → AnyCrash old.disk new.disk (SpellsOne meaning.spells (IsFound holds meaning.state seen old.cursor))
+  crash_in_apply old new e h here = weaker old.disk new.disk _ _ (spells_weaker (MayFindDuring meaning.state old e) (IsFound holds meaning.state seen old.cursor) one)
     where
-      one : (s : Saved) → MayFindDuring state old e s → IsFound holds state seen old.cursor s
+      one : (s : Saved) → MayFindDuring meaning.state old e s → IsFound holds meaning.state seen old.cursor s
       one s (inl k) = found_state old s h k
       one s (inr k) = record { at = state_next old e s.contents s h.now here k.1 k.0 refl; forward = omega (arith, k.0) }
 
-  pub crash_in_reopen : (old new : ReplicaView) → Follows holds state spells seen old → AnyCrash old.disk new.disk (SpellsOne spells (MayFind old)) → AnyCrash old.disk new.disk (SpellsOne spells (IsFound holds state seen old.cursor))
-  crash_in_reopen old new h = weaker old.disk new.disk _ _ (spells_weaker (MayFind old) (IsFound holds state seen old.cursor) (λ s. found_state old s h))
+  pub crash_in_reopen : (old new : ReplicaView) → Follows holds meaning seen old → AnyCrash old.disk new.disk (SpellsOne meaning.spells (MayFind old)) → AnyCrash old.disk new.disk (SpellsOne meaning.spells (IsFound holds meaning.state seen old.cursor))
+  crash_in_reopen old new h = weaker old.disk new.disk _ _ (spells_weaker (MayFind old) (IsFound holds meaning.state seen old.cursor) (λ s. found_state old s h))
 
 -- As the journal goes on
 
-module _ (law : Law) (holds : List Event → ℕ → Entry → Type 0) (state : List Entry → SpaceMap → Type 0) (spells : List ℕ → Saved → Type 0) (holding : Stays law holds) where
+module _ (law : Law) (holds : List Event → ℕ → Entry → Type 0) (meaning : Meaning) (holding : Stays law holds) where
   held_later : (old new : List Event) (pos : ℕ) (e : Entry) → Later law old new → holds old pos e → holds new pos e
   held_later old new pos e later h = subst (λ es. holds es pos e) (sym later.seen) (holding old later.more pos e (subst (IsLegal law) later.seen later.legal) h)
 
-  state_later : (old new : List Event) (s : Saved) → Later law old new → IsStateAt holds state old s → IsStateAt holds state new s
+  state_later : (old new : List Event) (s : Saved) → Later law old new → IsStateAt holds meaning.state old s → IsStateAt holds meaning.state new s
   state_later old new s later h = record {
     log = h.log;
     size = h.size;
@@ -180,7 +180,7 @@ module _ (law : Law) (holds : List Event → ℕ → Entry → Type 0) (state : 
     led = h.led;
   }
 
-  pub follows_later : (old new : List Event) (v : ReplicaView) → Later law old new → Follows holds state spells old v → Follows holds state spells new v
+  pub follows_later : (old new : List Event) (v : ReplicaView) → Later law old new → Follows holds meaning old v → Follows holds meaning new v
   follows_later old new v later h = record {
     now = state_later old new (saved_in v) later h.now;
     asked = λ s is. let k = h.asked s is in record { entry = k.entry; held = held_later old new v.cursor k.entry later k.held; led = k.led; next = k.next };
@@ -188,33 +188,33 @@ module _ (law : Law) (holds : List Event → ℕ → Entry → Type 0) (state : 
   }
 
   -- it went on, and went on again
-  pub goes_after : (old new : List Event) (a b c : Saved) → Later law old new → GoesOn holds state old a b → GoesOn holds state new b c → GoesOn holds state new a c
+  pub goes_after : (old new : List Event) (a b c : Saved) → Later law old new → GoesOn holds meaning.state old a b → GoesOn holds meaning.state new b c → GoesOn holds meaning.state new a c
   goes_after old new a b c later f g =
-      goes_on holds state spells new a b c
+      goes_on holds meaning new a b c
       (record { entries = f.entries; size = f.size; held = λ k e at. held_later old new (a.cursor + k) e later (f.held k e at); led = f.led })
       g
 
   -- one run after another
   pub crash_on : (old new : List Event) (a b v : ReplicaView) → Later law old new → a.cursor ≤ b.cursor
-      → AnyCrash a.disk b.disk (SpellsOne spells (IsFound holds state old a.cursor))
-      → AnyCrash b.disk v.disk (SpellsOne spells (IsFound holds state new b.cursor))
-      → AnyCrash a.disk v.disk (SpellsOne spells (IsFound holds state new a.cursor))
+      → AnyCrash a.disk b.disk (SpellsOne meaning.spells (IsFound holds meaning.state old a.cursor))
+      → AnyCrash b.disk v.disk (SpellsOne meaning.spells (IsFound holds meaning.state new b.cursor))
+      → AnyCrash a.disk v.disk (SpellsOne meaning.spells (IsFound holds meaning.state new a.cursor))
   crash_on old new a b v later le front back =
-      joined a.disk b.disk v.disk (SpellsOne spells (IsFound holds state new a.cursor))
+      joined a.disk b.disk v.disk (SpellsOne meaning.spells (IsFound holds meaning.state new a.cursor))
       (weaker a.disk b.disk _ _ (λ image h. (h.0, h.1, record { at = state_later old new h.0 later h.2.at; forward = h.2.forward })) front)
       (weaker b.disk v.disk _ _ (λ image h. (h.0, h.1, record { at = h.2.at; forward = omega (arith, h.2.forward) })) back)
 
   -- only what waits changed
-  pub follows_rest : (old new : List Event) (v w : ReplicaView) → Later law old new → w ≡ record v { kept = w.kept } → Follows holds state spells old v → Follows holds state spells new w
+  pub follows_rest : (old new : List Event) (v w : ReplicaView) → Later law old new → w ≡ record v { kept = w.kept } → Follows holds meaning old v → Follows holds meaning new w
   follows_rest old new v w later is h =
       let k = follows_later old new v later h in
-      subst (λ x. Follows holds state spells new x) (sym is) record { now = k.now; asked = k.asked; survives = k.survives }
+      subst (λ x. Follows holds meaning new x) (sym is) record { now = k.now; asked = k.asked; survives = k.survives }
 
   pub crash_rest : (old new : List Event) (a b w : ReplicaView) → Later law old new → w ≡ record b { kept = w.kept }
-      → AnyCrash a.disk b.disk (SpellsOne spells (IsFound holds state old a.cursor))
-      → AnyCrash a.disk w.disk (SpellsOne spells (IsFound holds state new a.cursor))
+      → AnyCrash a.disk b.disk (SpellsOne meaning.spells (IsFound holds meaning.state old a.cursor))
+      → AnyCrash a.disk w.disk (SpellsOne meaning.spells (IsFound holds meaning.state new a.cursor))
   crash_rest old new a b w later is h =
-      subst (λ (x : ReplicaView). AnyCrash a.disk x.disk (SpellsOne spells (IsFound holds state new a.cursor))) (sym is)
+      subst (λ (x : ReplicaView). AnyCrash a.disk x.disk (SpellsOne meaning.spells (IsFound holds meaning.state new a.cursor))) (sym is)
       (weaker a.disk b.disk _ _ (λ image k. (k.0, k.1, record { at = state_later old new k.0 later k.2.at; forward = k.2.forward })) h)
 
   pub trimmed_later : (old new : List Event) (pos : ℕ) → Later law old new → IsTrimmed old pos → IsTrimmed new pos

@@ -1,13 +1,12 @@
 -- What a node's log shows may be trimmed as far as its state says.
 use Rattle.std.proofs.Common.{◌≡◌, ℕ, zero, suc, ◌<◌, ◌≤◌, List, [], ◌∷◌, length, Some, refl, sym, ap, ◌∙◌, subst, arith}
 use Rattle.std.specs.Prelude.{min, slice_get}
-use Rattle.delos_types.specs.Spaces.{SpaceMap}
 use Rattle.delos_types.specs.declared.entry.Entry.{Entry}
 use Rattle.engine_steps.specs.Layout.{trim_of}
 use Rattle.legal_journal.specs.Law.{Law}
 use Rattle.legal_journal.specs.declared.events.Event.{Event}
 use Rattle.legal_journal.specs.Journal.{state_of, IsLegal, IsFree}
-use Rattle.replica_api.specs.Replica.{Saved, ReplicaView}
+use Rattle.replica_api.specs.Replica.{Meaning, ReplicaView}
 use Rattle.base_engine.specs.Reading.{IsFront}
 use Rattle.base_engine.specs.Following.{Follows}
 use Rattle.base_engine.specs.Trimming.{least_of, IsFloor, ShowsAll, trim_to}
@@ -30,7 +29,7 @@ module _ (law : Law) (holds : List Event → ℕ → Entry → Type 0) (seen : L
       let same : Some x ≡ Some y = sym (shows seen i x legal (f i x at)) ∙ shows seen i y legal (h i y is) in
       cc)
 
-  module _ (state : List Entry → SpaceMap → Type 0) (spells : List ℕ → Saved → Type 0) (nodes : ℕ) (v : ReplicaView) (f : Follows holds state spells seen v) where
+  module _ (meaning : Meaning) (nodes : ℕ) (v : ReplicaView) (f : Follows holds meaning seen v) where
     -- what was applied is shown, so it may be trimmed as far as the rules let its entries go
     pub free_to : ((log : List Entry) → IsFront holds seen log → length log ≡ v.cursor → law.floor log (trim_to nodes v)) → IsFree (state_of seen).shown law.floor (trim_to nodes v)
     free_to free = record {
@@ -40,7 +39,7 @@ module _ (law : Law) (holds : List Event → ℕ → Entry → Type 0) (seen : L
     }
 
     -- the rules go by the state that the entries led to, and those are these
-    pub floor_applied : IsFloor state law.floor nodes → (log : List Entry) → IsFront holds seen log → length log ≡ v.cursor → law.floor log (trim_to nodes v)
+    pub floor_applied : IsFloor meaning.state law.floor nodes → (log : List Entry) → IsFront holds seen log → length log ≡ v.cursor → law.floor log (trim_to nodes v)
     floor_applied low log front size =
         let same = fronts_agree f.now.log log f.now.front front (f.now.size ∙ sym size) in
         subst (λ l. law.floor l (trim_to nodes v)) same

@@ -1,23 +1,22 @@
 -- A node stays well.
 use Rattle.std.proofs.Common.{◌≡◌, ◌≢◌, ℕ, ◌≤◌, List, [], ◌∷◌, ◌++◌, length, Option, Some, None, sym, ◌∙◌, subst}
 use Rattle.std.specs.Prelude.{All}
-use Rattle.delos_types.specs.Spaces.{SpaceMap}
 use Rattle.delos_types.specs.declared.entry.Entry.{Entry}
 use Rattle.delos_types.specs.declared.item.Item.{Item}
 use Rattle.engine_api.specs.Packing.{packed}
 use Rattle.legal_journal.specs.Law.{Law}
 use Rattle.legal_journal.specs.declared.events.Event.{Event}
 use Rattle.legal_journal.specs.Journal.{IsLegal}
-use Rattle.replica_api.specs.Replica.{Saved, ReplicaView, Survives, Queues, Flushes}
+use Rattle.replica_api.specs.Replica.{Meaning, ReplicaView, Survives, Queues, Flushes}
 use Rattle.base_engine.specs.Reading.{IsFront}
 use Rattle.base_engine.specs.Following.{Follows, IsKnown}
 use Rattle.base_engine.specs.Settling.{MaySend}
 use Rattle.base_engine.specs.Node.{NodeView, NodeOk}
 
-module _ (law : Law) (holds : List Event → ℕ → Entry → Type 0) (state : List Entry → SpaceMap → Type 0) (spells : List ℕ → Saved → Type 0) where
+module _ (law : Law) (holds : List Event → ℕ → Entry → Type 0) (meaning : Meaning) where
   -- its entries and what waits are as they were
-  pub ok_same : (old new : NodeView) → NodeOk law holds state spells old → IsLegal law new.seen → new.who ≡ old.who → Follows holds state spells new.seen new.replica → IsKnown new.known new.replica
-      → new.outbox.entries ≡ old.outbox.entries → new.replica.kept ≡ old.replica.kept → new.replica.origin ≡ old.replica.origin → new.nodes ≡ old.nodes → NodeOk law holds state spells new
+  pub ok_same : (old new : NodeView) → NodeOk law holds meaning old → IsLegal law new.seen → new.who ≡ old.who → Follows holds meaning new.seen new.replica → IsKnown new.known new.replica
+      → new.outbox.entries ≡ old.outbox.entries → new.replica.kept ≡ old.replica.kept → new.replica.origin ≡ old.replica.origin → new.nodes ≡ old.nodes → NodeOk law holds meaning new
   ok_same old new ok legal who follows bounded entries kept origin nodes = record {
     eight = subst (λ n. n ≤ 8) (sym nodes) ok.eight;
     legal = legal;
@@ -30,8 +29,8 @@ module _ (law : Law) (holds : List Event → ℕ → Entry → Type 0) (state : 
         (subst (λ k. law.may old.who (packed old.replica.origin k)) (sym kept) (ok.waiting (λ none. some (kept ∙ none)))));
   }
 
-  pub ok_waiting : (old new : NodeView) → new.nodes ≤ 8 → IsLegal law new.seen → Follows holds state spells new.seen new.replica → IsKnown new.known new.replica → All (λ e. MaySend law.may new.who e) new.outbox.entries → length new.outbox.entries ≤ 4
-      → new.who ≡ old.who → new.replica.origin ≡ old.replica.origin → (new.replica.kept ≢ [] → law.may old.who (packed old.replica.origin new.replica.kept)) → NodeOk law holds state spells new
+  pub ok_waiting : (old new : NodeView) → new.nodes ≤ 8 → IsLegal law new.seen → Follows holds meaning new.seen new.replica → IsKnown new.known new.replica → All (λ e. MaySend law.may new.who e) new.outbox.entries → length new.outbox.entries ≤ 4
+      → new.who ≡ old.who → new.replica.origin ≡ old.replica.origin → (new.replica.kept ≢ [] → law.may old.who (packed old.replica.origin new.replica.kept)) → NodeOk law holds meaning new
   ok_waiting old new eight legal follows bounded own few who origin waiting = record {
     eight = eight;
     legal = legal;
@@ -45,8 +44,8 @@ module _ (law : Law) (holds : List Event → ℕ → Entry → Type 0) (state : 
 pub front_none : (holds : List Event → ℕ → Entry → Type 0) (seen : List Event) → IsFront holds seen []
 front_none holds seen pos e h = absurd (cc)
 
-pub follows_fresh : (holds : List Event → ℕ → Entry → Type 0) (state : List Entry → SpaceMap → Type 0) (spells : List ℕ → Saved → Type 0) (seen : List Event) (v : ReplicaView) → state [] v.contents → v.cursor ≡ 0 → v.asked ≡ None → Survives spells v → Follows holds state spells seen v
-follows_fresh holds state spells seen v led start none survives = record {
+pub follows_fresh : (holds : List Event → ℕ → Entry → Type 0) (meaning : Meaning) (seen : List Event) (v : ReplicaView) → meaning.state [] v.contents → v.cursor ≡ 0 → v.asked ≡ None → Survives meaning.spells v → Follows holds meaning seen v
+follows_fresh holds meaning seen v led start none survives = record {
   now = record { log = []; size = sym start; front = front_none holds seen; led = led };
   asked = λ s is. let no : None ≡ Some s = sym none ∙ is in absurd (cc);
   survives = survives;

@@ -10,7 +10,7 @@ use Rattle.legal_journal.specs.Journal.{state_of, tail_of, trim_of}
 use Rattle.virtual_log.specs.Turning.{OnlyOwn}
 use Rattle.virtual_log.specs.Holding.{IsTrimmed}
 use Rattle.base_engine.specs.Reading.{IsFront}
-use Rattle.replica_api.specs.Replica.{Saved, ReplicaView, saved_in, Survives, Advances}
+use Rattle.replica_api.specs.Replica.{Meaning, Saved, ReplicaView, saved_in, Survives, Advances}
 
 -- the space is what the log's first entries lead to, so many as the cursor says
 pub record IsStateAt (holds : List Event → ℕ → Entry → Type 0) (state : List Entry → SpaceMap → Type 0) (seen : List Event) (s : Saved) : Type 0 where
@@ -40,10 +40,10 @@ pub record IsFound (holds : List Event → ℕ → Entry → Type 0) (state : Li
   pub forward : cursor ≤ s.cursor
 
 -- The replica has the state of the log's first `cursor` entries, now and after any crash.
-pub record Follows (holds : List Event → ℕ → Entry → Type 0) (state : List Entry → SpaceMap → Type 0) (spells : List ℕ → Saved → Type 0) (seen : List Event) (v : ReplicaView) : Type 0 where
-  pub now : IsStateAt holds state seen (saved_in v)
-  pub asked : (s : Saved) → v.asked ≡ Some s → IsAsked holds state seen (saved_in v) s
-  pub survives : Survives spells v
+pub record Follows (holds : List Event → ℕ → Entry → Type 0) (meaning : Meaning) (seen : List Event) (v : ReplicaView) : Type 0 where
+  pub now : IsStateAt holds meaning.state seen (saved_in v)
+  pub asked : (s : Saved) → v.asked ≡ Some s → IsAsked holds meaning.state seen (saved_in v) s
+  pub survives : Survives meaning.spells v
 
 -- the log is known up to the cursor, and up to that of what the disk failed to keep
 pub record IsKnown (known : ℕ) (v : ReplicaView) : Type 0 where

@@ -1,13 +1,12 @@
 -- A node, as its callers see it.
 use Rattle.std.specs.Prelude.{◌≡◌, ◌≢◌, ℕ, ◌≤◌, List, [], length, All}
-use Rattle.delos_types.specs.Spaces.{SpaceMap}
 use Rattle.delos_types.specs.declared.entry.Entry.{Entry}
 use Rattle.engine_api.specs.Packing.{packed}
 use Rattle.legal_journal.specs.Law.{Law}
 use Rattle.legal_journal.specs.declared.events.Event.{Event}
 use Rattle.legal_journal.specs.Journal.{IsLegal}
 use Rattle.virtual_log.specs.Turning.{Later}
-use Rattle.replica_api.specs.Replica.{Saved, ReplicaView}
+use Rattle.replica_api.specs.Replica.{Meaning, ReplicaView}
 use Rattle.base_engine.specs.Following.{Follows, IsKnown}
 use Rattle.base_engine.specs.Settling.{OutboxView, MaySend}
 
@@ -30,10 +29,10 @@ pub record RestedView : Type 0 where
 abbrev pub awake : RestedView → ℕ → List Event → ℕ → NodeView
 awake r who seen known = record { who = who; nodes = r.nodes; seen = seen; known = known; replica = r.replica; outbox = r.outbox }
 
-pub record NodeOk (law : Law) (holds : List Event → ℕ → Entry → Type 0) (state : List Entry → SpaceMap → Type 0) (spells : List ℕ → Saved → Type 0) (n : NodeView) : Type 0 where
+pub record NodeOk (law : Law) (holds : List Event → ℕ → Entry → Type 0) (meaning : Meaning) (n : NodeView) : Type 0 where
   pub eight : n.nodes ≤ 8
   pub legal : IsLegal law n.seen
-  pub follows : Follows holds state spells n.seen n.replica
+  pub follows : Follows holds meaning n.seen n.replica
   pub bounded : IsKnown n.known n.replica
   pub own : All (λ e. MaySend law.may n.who e) n.outbox.entries
   pub few : length n.outbox.entries ≤ 4

@@ -64,7 +64,7 @@ impl<L: SharedLog, R: Replica> Model for Node<L, R> {
 
     ghost view = { λ n. record { who = L.who n.log; nodes = n.nodes; seen = L.seen n.log; known = L.reaches n.log; replica = R.shows n.replica; outbox = view_of n.outbox } };
 
-    ghost invariant = { λ n. NodeOk L.Law.law L.holds R.state R.spells (record { who = L.who n.log; nodes = n.nodes; seen = L.seen n.log; known = L.reaches n.log; replica = R.shows n.replica; outbox = view_of n.outbox }) };
+    ghost invariant = { λ n. NodeOk L.Law.law L.holds R.meaning (record { who = L.who n.log; nodes = n.nodes; seen = L.seen n.log; known = L.reaches n.log; replica = R.shows n.replica; outbox = view_of n.outbox }) };
 }
 
 impl<L: SharedLog, R: Replica> Node<L, R> {
@@ -72,11 +72,11 @@ impl<L: SharedLog, R: Replica> Node<L, R> {
     pub fn new(alloc: Global, nodes: u8, log: L, replica: R) -> Self
         requires nodes { nodes ≤ 8 }
         requires legal { IsLegal L.Law.law (L.seen log) }
-        requires empty { R.state [] (R.shows replica).contents }
+        requires empty { R.meaning.state [] (R.shows replica).contents }
         requires start { (R.shows replica).cursor ≡ 0 }
         requires none_asked { (R.shows replica).asked ≡ None }
         requires nothing_waits { (R.shows replica).kept ≡ [] }
-        requires survives { Survives R.spells (R.shows replica) }
+        requires survives { Survives R.meaning.spells (R.shows replica) }
         ensures fresh { result ≡ record { who = L.who log; nodes = nodes; seen = L.seen log; known = L.reaches log; replica = R.shows replica; outbox = record { entries = []; given = []; unsettled = None } } }
     {
         Node {
@@ -97,7 +97,7 @@ impl<L: SharedLog, R: Replica> Node<L, R> {
         ensures who { L.who result.0 ≡ self.who }
         ensures seen { L.seen result.0 ≡ self.seen }
         ensures replica { R.shows result.1 ≡ self.replica }
-        ensures follows { Follows L.holds R.state R.spells self.seen self.replica }
+        ensures follows { Follows L.holds R.meaning self.seen self.replica }
     {
         let Node {
             alloc: _,
@@ -119,7 +119,7 @@ impl<L: SharedLog, R: Replica> Node<L, R> {
     /// How many entries of the log its state has.
     pub fn cursor(&self) -> u64
         ensures cursor { result ≡ self.now.replica.cursor }
-        ensures follows { Follows L.holds R.state R.spells self.now.seen self.now.replica }
+        ensures follows { Follows L.holds R.meaning self.now.seen self.now.replica }
     {
         self.replica.cursor()
     }
@@ -134,7 +134,7 @@ impl<L: SharedLog, R: Replica> Node<L, R> {
     /// The value at a key of the table, in the state of the log's first `cursor` entries.
     pub fn value(&self, key: &[u8]) -> Result<Option<Bytes>, AllocError>
         ensures value { IfOk result (λ value. value ≡ layout.value_of self.now.replica.contents key.now) }
-        ensures follows { Follows L.holds R.state R.spells self.now.seen self.now.replica }
+        ensures follows { Follows L.holds R.meaning self.now.seen self.now.replica }
     {
         self.replica.value(key)
     }
@@ -142,7 +142,7 @@ impl<L: SharedLog, R: Replica> Node<L, R> {
     /// What the table answers to a read, in the state of the log's first `cursor` entries.
     pub fn read(&self, query: &Query) -> Result<Found, AllocError>
         ensures found { IfOk result (λ found. found ≡ found_in self.now.replica.contents query.now) }
-        ensures follows { Follows L.holds R.state R.spells self.now.seen self.now.replica }
+        ensures follows { Follows L.holds R.meaning self.now.seen self.now.replica }
     {
         read(self.alloc, &self.replica, query)
     }
@@ -150,7 +150,7 @@ impl<L: SharedLog, R: Replica> Node<L, R> {
     /// Where a rank acted and what it was answered, in the state of the log's first `cursor` entries.
     pub fn reply_of(&self, session: SessionId, rank: Rank) -> Result<Option<Kept>, AllocError>
         ensures reply { IfOk result (λ kept. kept ≡ layout.reply_of self.now.replica.contents session rank) }
-        ensures follows { Follows L.holds R.state R.spells self.now.seen self.now.replica }
+        ensures follows { Follows L.holds R.meaning self.now.seen self.now.replica }
     {
         self.replica.reply_of(session, rank)
     }
@@ -158,7 +158,7 @@ impl<L: SharedLog, R: Replica> Node<L, R> {
     /// How many first entries are clean.
     pub fn clean(&self) -> Result<u64, AllocError>
         ensures clean { IfOk result (λ clean. clean ≡ layout.clean_of self.now.replica.contents self.now.replica.cursor) }
-        ensures follows { Follows L.holds R.state R.spells self.now.seen self.now.replica }
+        ensures follows { Follows L.holds R.meaning self.now.seen self.now.replica }
     {
         self.replica.clean()
     }
@@ -167,7 +167,7 @@ impl<L: SharedLog, R: Replica> Node<L, R> {
     pub fn has_left(&self, node: NodeId) -> Result<bool, AllocError>
         ensures left { IfOk result (λ left. left ≡ layout.has_left_in self.now.replica.contents node) }
         ensures legal { IsLegal L.Law.law self.now.seen }
-        ensures follows { Follows L.holds R.state R.spells self.now.seen self.now.replica }
+        ensures follows { Follows L.holds R.meaning self.now.seen self.now.replica }
     {
         self.replica.has_left(node)
     }
@@ -176,7 +176,7 @@ impl<L: SharedLog, R: Replica> Node<L, R> {
     /// is a member.
     pub fn least(&self) -> Result<u64, AllocError>
         ensures least { IfOk result (λ least. least ≡ least_of self.now.nodes self.now.replica.contents) }
-        ensures follows { Follows L.holds R.state R.spells self.now.seen self.now.replica }
+        ensures follows { Follows L.holds R.meaning self.now.seen self.now.replica }
     {
         least(&self.replica, self.nodes)
     }
@@ -184,18 +184,18 @@ impl<L: SharedLog, R: Replica> Node<L, R> {
     /// Finds a tail of the log, plays up to it, and answers it.
     pub fn sync(&mut self) -> Result<u64, Fault>
         ensures keeps { Keeps L.Law.law self.old self.new }
-        ensures follows { Follows L.holds R.state R.spells self.new.seen self.new.replica }
+        ensures follows { Follows L.holds R.meaning self.new.seen self.new.replica }
         ensures synced { IfOk result (λ tail. IsAbove self.old.who self.old.seen tail self.new.seen) }
         ensures cursor { IfOk result (λ tail. IsAt tail self.new.replica self.new.seen) }
         ensures within { IfOk result (λ tail. self.new.replica.cursor ≤ tail) }
 
         // It went on from where it was by entries that the log holds, one behind another, with any answer.
-        ensures goes_on { GoesOn L.holds R.state self.new.seen (saved_in self.old.replica) (saved_in self.new.replica) }
+        ensures goes_on { GoesOn L.holds R.meaning.state self.new.seen (saved_in self.old.replica) (saved_in self.new.replica) }
 
         // It is the log's tail, where no event of another came meanwhile and nothing was trimmed that wasn't played.
         ensures exact { IfOk result (λ tail. EndsBy self.old.who self.old.replica.cursor self.old.seen tail self.new.seen) }
         ensures blames { IfErr result (λ f. Blames self.old.who self.old.seen self.old.replica.faults f self.new.seen self.new.replica.faults) }
-        ensures any_crash { AnyCrash self.old.replica.disk self.new.replica.disk (SpellsOne R.spells (IsFound L.holds R.state self.new.seen self.old.replica.cursor)) }
+        ensures any_crash { AnyCrash self.old.replica.disk self.new.replica.disk (SpellsOne R.meaning.spells (IsFound L.holds R.meaning.state self.new.seen self.old.replica.cursor)) }
         ensures kept { self.new.replica.kept ≡ self.old.replica.kept }
         ensures outbox { self.new.outbox ≡ self.old.outbox }
 
@@ -215,14 +215,14 @@ impl<L: SharedLog, R: Replica> Node<L, R> {
     pub fn play(&mut self, to: u64) -> Result<(), Fault>
         requires { to ≤ self.old.known }
         ensures keeps { Keeps L.Law.law self.old self.new }
-        ensures follows { Follows L.holds R.state R.spells self.new.seen self.new.replica }
+        ensures follows { Follows L.holds R.meaning self.new.seen self.new.replica }
         ensures reaches { OnOk result (Reaches to self.old.replica self.new.replica self.new.seen) }
         ensures within { self.new.replica.cursor ≤ max self.old.replica.cursor to }
 
         // It went on from where it was by entries that the log holds, one behind another, with any answer.
-        ensures goes_on { GoesOn L.holds R.state self.new.seen (saved_in self.old.replica) (saved_in self.new.replica) }
+        ensures goes_on { GoesOn L.holds R.meaning.state self.new.seen (saved_in self.old.replica) (saved_in self.new.replica) }
         ensures blames { IfErr result (λ f. Blames self.old.who self.old.seen self.old.replica.faults f self.new.seen self.new.replica.faults) }
-        ensures any_crash { AnyCrash self.old.replica.disk self.new.replica.disk (SpellsOne R.spells (IsFound L.holds R.state self.new.seen self.old.replica.cursor)) }
+        ensures any_crash { AnyCrash self.old.replica.disk self.new.replica.disk (SpellsOne R.meaning.spells (IsFound L.holds R.meaning.state self.new.seen self.old.replica.cursor)) }
         ensures kept { self.new.replica.kept ≡ self.old.replica.kept }
         ensures outbox { self.new.outbox ≡ self.old.outbox }
 
@@ -242,7 +242,7 @@ impl<L: SharedLog, R: Replica> Node<L, R> {
         requires item { IsProposable item }
         requires own { L.Law.law.may self.old.who (packed self.old.replica.origin (self.old.replica.kept ++ item ∷ [])) }
         ensures keeps { Keeps L.Law.law self.old self.new }
-        ensures follows { Follows L.holds R.state R.spells self.new.seen self.new.replica }
+        ensures follows { Follows L.holds R.meaning self.new.seen self.new.replica }
         ensures proposed { OnOk result (Proposed L.holds self.old.who self.old.seen self.old.outbox self.old.replica item self.new.seen self.new.outbox self.new.replica) }
         ensures refused { IfErr result (λ f. Refused L.holds self.old.who self.old.seen self.old.outbox item f self.new.seen self.new.outbox) }
         ensures same { OnErr result (self.new.replica.kept ≡ self.old.replica.kept) }
@@ -250,7 +250,7 @@ impl<L: SharedLog, R: Replica> Node<L, R> {
         // An item that is near as it is proposed goes down, and nothing is played.
         ensures near { IsNear self.old.replica.contents item → OnOk result (Sent L.holds self.old.who self.old.seen self.old.outbox (λ packed. Queues self.old.replica.origin self.old.replica.kept item packed self.new.replica.kept) self.new.seen self.new.outbox) × IfErr result (λ f. f ≡ Fault.Memory) × (self.new.replica ≡ record self.old.replica { kept = self.new.replica.kept }) }
         ensures blames { IfErr result (λ f. Blames self.old.who self.old.seen self.old.replica.faults f self.new.seen self.new.replica.faults) }
-        ensures any_crash { AnyCrash self.old.replica.disk self.new.replica.disk (SpellsOne R.spells (IsFound L.holds R.state self.new.seen self.old.replica.cursor)) }
+        ensures any_crash { AnyCrash self.old.replica.disk self.new.replica.disk (SpellsOne R.meaning.spells (IsFound L.holds R.meaning.state self.new.seen self.old.replica.cursor)) }
 
         // Nobody but a stop arms the disk, and a store is opened again with word 0 alone: one that was down, or failed, and is up
         // now was told 0 last. The store is a cause where its disk failed twice, or failed again.
@@ -316,15 +316,15 @@ impl<L: SharedLog, R: Replica> Node<L, R> {
     /// Opens the store again, where it is down. The word chooses what a stopped commit left.
     pub fn recover(&mut self, word: u64) -> Result<(), Fault>
         ensures keeps { Keeps L.Law.law self.old self.new }
-        ensures follows { Follows L.holds R.state R.spells self.new.seen self.new.replica }
+        ensures follows { Follows L.holds R.meaning self.new.seen self.new.replica }
         ensures near { self.new.replica.cursor ≤ self.old.replica.cursor + 1 }
-        ensures goes_on { GoesOn L.holds R.state self.new.seen (saved_in self.old.replica) (saved_in self.new.replica) }
+        ensures goes_on { GoesOn L.holds R.meaning.state self.new.seen (saved_in self.old.replica) (saved_in self.new.replica) }
         ensures up { OnOk result (self.new.replica.down ≡ false) }
         ensures kept { self.new.replica.kept ≡ self.old.replica.kept }
         ensures outbox { self.new.outbox ≡ self.old.outbox }
         ensures seen { self.new.seen ≡ self.old.seen }
         ensures blames { IfErr result (λ f. Blames self.old.who self.old.seen self.old.replica.faults f self.new.seen self.new.replica.faults) }
-        ensures any_crash { AnyCrash self.old.replica.disk self.new.replica.disk (SpellsOne R.spells (IsFound L.holds R.state self.new.seen self.old.replica.cursor)) }
+        ensures any_crash { AnyCrash self.old.replica.disk self.new.replica.disk (SpellsOne R.meaning.spells (IsFound L.holds R.meaning.state self.new.seen self.old.replica.cursor)) }
 
         // Where it was up nothing is done; and it fails for the store only where the disk failed again.
         ensures recovered { OnOk result (Recovered word self.old.replica self.new.replica) }
@@ -351,7 +351,7 @@ impl<L: SharedLog, R: Replica> Node<L, R> {
     pub fn extend(&mut self) -> Result<Extension, Fault>
         requires right { L.Law.seals self.old.who }
         ensures keeps { Keeps L.Law.law self.old self.new }
-        ensures follows { Follows L.holds R.state R.spells self.new.seen self.new.replica }
+        ensures follows { Follows L.holds R.meaning self.new.seen self.new.replica }
         ensures extension { IfOk result (IsExtendedBy (length L.Law.law.shelf) self.old.who self.old.seen self.old.known self.new.known self.new.seen) }
 
         // Whatever comes of it, it begins no Seal, or one of the loglet that its first look had as the last one.
@@ -370,18 +370,18 @@ impl<L: SharedLog, R: Replica> Node<L, R> {
     /// member's position, nor past what was applied. Answers the trim.
     pub fn trim_now(&mut self) -> Result<u64, Fault>
         // The log's rules allow a trim up to the trim point, but not past the least position of a member.
-        requires floor { IsFloor R.state L.Law.law.floor self.old.nodes }
+        requires floor { IsFloor R.meaning.state L.Law.law.floor self.old.nodes }
         requires own { (position : ℕ) → position < 2 ^ 64 → L.Law.law.may self.old.who (packed self.old.replica.origin (self.old.replica.kept ++ trim_item position ∷ [])) }
 
         // By the log's rules it shows what it holds, or did before it was trimmed.
         requires shown { ShowsAll L.Law.law L.holds }
         ensures keeps { Keeps L.Law.law self.old self.new }
-        ensures follows { Follows L.holds R.state R.spells self.new.seen self.new.replica }
-        ensures trims { IfOk result (Trims L.holds R.state self.old.nodes self.old.who self.old.replica.origin self.old.seen self.new.seen self.new.replica self.new.known) }
+        ensures follows { Follows L.holds R.meaning self.new.seen self.new.replica }
+        ensures trims { IfOk result (Trims L.holds R.meaning.state self.old.nodes self.old.who self.old.replica.origin self.old.seen self.new.seen self.new.replica self.new.known) }
 
         // Where no earlier cause waits for a settling.
         ensures blames { self.old.outbox.unsettled ≡ None → IfErr result (λ f. Blames self.old.who self.old.seen self.old.replica.faults f self.new.seen self.new.replica.faults) }
-        ensures any_crash { AnyCrash self.old.replica.disk self.new.replica.disk (SpellsOne R.spells (IsFound L.holds R.state self.new.seen self.old.replica.cursor)) }
+        ensures any_crash { AnyCrash self.old.replica.disk self.new.replica.disk (SpellsOne R.meaning.spells (IsFound L.holds R.meaning.state self.new.seen self.old.replica.cursor)) }
 
         // Nobody but a stop arms the disk, and a store is opened again with word 0 alone: one that was down, or failed, and is up
         // now was told 0 last. The store is a cause where its disk failed twice, or failed again.
@@ -410,7 +410,7 @@ impl<L: SharedLog, R: Replica> Node<L, R> {
         // So much of what was applied the log's rules let go.
         requires free { (log : List Entry) → IsFront L.holds self.old.seen log → length log ≡ self.old.replica.cursor → L.Law.law.floor log (trim_to self.old.nodes self.old.replica) }
         ensures keeps { Keeps L.Law.law self.old self.new }
-        ensures follows { Follows L.holds R.state R.spells self.new.seen self.new.replica }
+        ensures follows { Follows L.holds R.meaning self.new.seen self.new.replica }
         ensures replica { self.new.replica ≡ self.old.replica }
         ensures outbox { self.new.outbox ≡ self.old.outbox }
         ensures known { self.new.known ≡ self.old.known }
@@ -426,7 +426,7 @@ impl<L: SharedLog, R: Replica> Node<L, R> {
         ensures who { L.who result.1 ≡ self.who }
         ensures seen { L.seen result.1 ≡ self.seen }
         ensures known { L.reaches result.1 ≡ self.known }
-        ensures ok { NodeOk L.Law.law L.holds R.state R.spells self }
+        ensures ok { NodeOk L.Law.law L.holds R.meaning self }
     {
         let Node {
             alloc,

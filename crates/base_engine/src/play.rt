@@ -33,19 +33,19 @@ pub fn apply_next<L: SharedLog, R: Replica>(
     to: u64,
 ) -> Result<Played, Fault>
     requires legal { IsLegal L.Law.law (L.seen log.old) }
-    requires follows { Follows L.holds R.state R.spells (L.seen log.old) (R.shows replica.old) }
+    requires follows { Follows L.holds R.meaning (L.seen log.old) (R.shows replica.old) }
     requires below { (R.shows replica.old).cursor < to }
     requires within { to ≤ L.reaches log.old }
     requires bounded { IsKnown (L.reaches log.old) (R.shows replica.old) }
     ensures later { Later L.Law.law (L.seen log.old) (L.seen log.new) }
     ensures who { L.who log.new ≡ L.who log.old }
     ensures known { L.reaches log.new ≡ L.reaches log.old }
-    ensures follows { Follows L.holds R.state R.spells (L.seen log.new) (R.shows replica.new) }
+    ensures follows { Follows L.holds R.meaning (L.seen log.new) (R.shows replica.new) }
     ensures bounded { IsKnown (L.reaches log.new) (R.shows replica.new) }
     ensures plays { IfOk result (λ p. Plays p (R.shows replica.old) (R.shows replica.new) (L.seen log.new)) }
     ensures quiet { OnOk result (KeepsTail (L.who log.old) (R.shows replica.old).cursor (L.seen log.old) (L.seen log.new)) }
     ensures forward { (R.shows replica.old).cursor ≤ (R.shows replica.new).cursor }
-    ensures goes_on { GoesOn L.holds R.state (L.seen log.new) (saved_in (R.shows replica.old)) (saved_in (R.shows replica.new)) }
+    ensures goes_on { GoesOn L.holds R.meaning.state (L.seen log.new) (saved_in (R.shows replica.old)) (saved_in (R.shows replica.new)) }
     ensures blames { IfErr result (λ f. Blames (L.who log.old) (L.seen log.old) (R.shows replica.old).faults f (L.seen log.new) (R.shows replica.new).faults) }
     ensures calm { IfErr result (λ f. ((R.shows replica.new).faults ≡ (R.shows replica.old).faults) × ((R.shows replica.new).cursor ≡ (R.shows replica.old).cursor)) }
     ensures kept { (R.shows replica.new).kept ≡ (R.shows replica.old).kept }
@@ -54,7 +54,7 @@ pub fn apply_next<L: SharedLog, R: Replica>(
     ensures never_store { IfErr result (λ f. f ≢ Fault.Because Cause.Store) }
 
     // A crash inside it leaves the state of some of the log's first entries, and of no fewer than before.
-    ensures any_crash { AnyCrash (R.shows replica.old).disk (R.shows replica.new).disk (SpellsOne R.spells (IsFound L.holds R.state (L.seen log.new) (R.shows replica.old).cursor)) }
+    ensures any_crash { AnyCrash (R.shows replica.old).disk (R.shows replica.new).disk (SpellsOne R.meaning.spells (IsFound L.holds R.meaning.state (L.seen log.new) (R.shows replica.old).cursor)) }
 {
     let position = replica.cursor();
     let next = match log.read_next(position, to) {
@@ -87,8 +87,8 @@ pub fn recover<R: Replica>(replica: &mut R, word: u64) -> Result<(), Fault>
     ensures twice { IfErr result (λ f. StoreTwice (R.shows replica.old) f (R.shows replica.new)) }
     ensures rose { IfErr result (λ f. f ≡ Fault.Because Cause.Store → Rose (R.shows replica.old).faults (R.shows replica.new).faults) }
     ensures blames { IfErr result (λ f. (who : ℕ) (old new : List Event) → Blames who old (R.shows replica.old).faults f new (R.shows replica.new).faults) }
-    ensures survives { Survives R.spells (R.shows replica.new) }
-    ensures any_crash { AnyCrash (R.shows replica.old).disk (R.shows replica.new).disk (SpellsOne R.spells (MayFind (R.shows replica.old))) }
+    ensures survives { Survives R.meaning.spells (R.shows replica.new) }
+    ensures any_crash { AnyCrash (R.shows replica.old).disk (R.shows replica.new).disk (SpellsOne R.meaning.spells (MayFind (R.shows replica.old))) }
 {
     match replica.reopen(word) {
         Reopened::Done => return Ok(()),
@@ -105,21 +105,21 @@ fn open_again<R: Replica>(replica: &mut R) -> Result<(), Fault>
     ensures arming { LeavesArming 0 (R.shows replica.old) (R.shows replica.new) }
     ensures twice { IfErr result (λ f. StoreTwice (R.shows replica.old) f (R.shows replica.new)) }
     ensures blames { IfErr result (λ f. (who : ℕ) (old new : List Event) → Blames who old (R.shows replica.old).faults f new (R.shows replica.new).faults) }
-    ensures survives { Survives R.spells (R.shows replica.new) }
-    ensures any_crash { AnyCrash (R.shows replica.old).disk (R.shows replica.new).disk (SpellsOne R.spells (MayFind (R.shows replica.old))) }
+    ensures survives { Survives R.meaning.spells (R.shows replica.new) }
+    ensures any_crash { AnyCrash (R.shows replica.old).disk (R.shows replica.new).disk (SpellsOne R.meaning.spells (MayFind (R.shows replica.old))) }
 {
     recover(replica, 0)
 }
 
 /// Opens the store of a replica that follows its log. The word chooses what a stopped commit left.
 pub fn restore<L: SharedLog, R: Replica>(_log: &L, replica: &mut R, word: u64) -> Result<(), Fault>
-    requires follows { Follows L.holds R.state R.spells (L.seen _log.now) (R.shows replica.old) }
+    requires follows { Follows L.holds R.meaning (L.seen _log.now) (R.shows replica.old) }
     requires bounded { IsKnown (L.reaches _log.now) (R.shows replica.old) }
-    ensures follows { Follows L.holds R.state R.spells (L.seen _log.now) (R.shows replica.new) }
+    ensures follows { Follows L.holds R.meaning (L.seen _log.now) (R.shows replica.new) }
     ensures bounded { IsKnown (L.reaches _log.now) (R.shows replica.new) }
     ensures forward { (R.shows replica.old).cursor ≤ (R.shows replica.new).cursor }
     ensures near { (R.shows replica.new).cursor ≤ (R.shows replica.old).cursor + 1 }
-    ensures goes_on { GoesOn L.holds R.state (L.seen _log.now) (saved_in (R.shows replica.old)) (saved_in (R.shows replica.new)) }
+    ensures goes_on { GoesOn L.holds R.meaning.state (L.seen _log.now) (saved_in (R.shows replica.old)) (saved_in (R.shows replica.new)) }
     ensures up { OnOk result ((R.shows replica.new).down ≡ false) }
     ensures blames { IfErr result (λ f. Blames (L.who _log.now) (L.seen _log.now) (R.shows replica.old).faults f (L.seen _log.now) (R.shows replica.new).faults) }
     ensures counts { (R.shows replica.old).faults ≤ (R.shows replica.new).faults }
@@ -129,7 +129,7 @@ pub fn restore<L: SharedLog, R: Replica>(_log: &L, replica: &mut R, word: u64) -
     ensures fails { IfErr result (λ f. FailsToOpen word (R.shows replica.old) f (R.shows replica.new)) }
     ensures arming { LeavesArming word (R.shows replica.old) (R.shows replica.new) }
     ensures twice { IfErr result (λ f. StoreTwice (R.shows replica.old) f (R.shows replica.new)) }
-    ensures any_crash { AnyCrash (R.shows replica.old).disk (R.shows replica.new).disk (SpellsOne R.spells (IsFound L.holds R.state (L.seen _log.now) (R.shows replica.old).cursor)) }
+    ensures any_crash { AnyCrash (R.shows replica.old).disk (R.shows replica.new).disk (SpellsOne R.meaning.spells (IsFound L.holds R.meaning.state (L.seen _log.now) (R.shows replica.old).cursor)) }
 {
     match recover(replica, word) {
         Ok(()) => return Ok(()),
@@ -143,26 +143,26 @@ pub fn restore<L: SharedLog, R: Replica>(_log: &L, replica: &mut R, word: u64) -
 /// Cost: one read of the log and one commit for each entry.
 pub fn play<L: SharedLog, R: Replica>(log: &mut L, replica: &mut R, to: u64) -> Result<(), Fault>
     requires legal { IsLegal L.Law.law (L.seen log.old) }
-    requires follows { Follows L.holds R.state R.spells (L.seen log.old) (R.shows replica.old) }
+    requires follows { Follows L.holds R.meaning (L.seen log.old) (R.shows replica.old) }
     requires within { to ≤ L.reaches log.old }
     requires bounded { IsKnown (L.reaches log.old) (R.shows replica.old) }
     ensures later { Later L.Law.law (L.seen log.old) (L.seen log.new) }
     ensures who { L.who log.new ≡ L.who log.old }
     ensures known { L.reaches log.new ≡ L.reaches log.old }
-    ensures follows { Follows L.holds R.state R.spells (L.seen log.new) (R.shows replica.new) }
+    ensures follows { Follows L.holds R.meaning (L.seen log.new) (R.shows replica.new) }
     ensures bounded { IsKnown (L.reaches log.new) (R.shows replica.new) }
     ensures reaches { OnOk result (Reaches to (R.shows replica.old) (R.shows replica.new) (L.seen log.new)) }
     ensures within { (R.shows replica.new).cursor ≤ max (R.shows replica.old).cursor to }
     ensures quiet { OnOk result (KeepsTail (L.who log.old) (R.shows replica.old).cursor (L.seen log.old) (L.seen log.new)) }
     ensures forward { (R.shows replica.old).cursor ≤ (R.shows replica.new).cursor }
-    ensures goes_on { GoesOn L.holds R.state (L.seen log.new) (saved_in (R.shows replica.old)) (saved_in (R.shows replica.new)) }
+    ensures goes_on { GoesOn L.holds R.meaning.state (L.seen log.new) (saved_in (R.shows replica.old)) (saved_in (R.shows replica.new)) }
     ensures blames { IfErr result (λ f. Blames (L.who log.old) (L.seen log.old) (R.shows replica.old).faults f (L.seen log.new) (R.shows replica.new).faults) }
     ensures counts { (R.shows replica.old).faults ≤ (R.shows replica.new).faults }
     ensures kept { (R.shows replica.new).kept ≡ (R.shows replica.old).kept }
     ensures origin { (R.shows replica.new).origin ≡ (R.shows replica.old).origin }
     ensures arming { LeavesArming 0 (R.shows replica.old) (R.shows replica.new) }
     ensures twice { IfErr result (λ f. StoreTwice (R.shows replica.old) f (R.shows replica.new)) }
-    ensures any_crash { AnyCrash (R.shows replica.old).disk (R.shows replica.new).disk (SpellsOne R.spells (IsFound L.holds R.state (L.seen log.new) (R.shows replica.old).cursor)) }
+    ensures any_crash { AnyCrash (R.shows replica.old).disk (R.shows replica.new).disk (SpellsOne R.meaning.spells (IsFound L.holds R.meaning.state (L.seen log.new) (R.shows replica.old).cursor)) }
 {
     let mut spare = true;
     'entry: while replica.cursor() < to {
@@ -188,12 +188,12 @@ pub fn play<L: SharedLog, R: Replica>(log: &mut L, replica: &mut R, to: u64) -> 
 /// Finds a tail of the log, and plays up to it.
 pub fn sync<L: SharedLog, R: Replica>(log: &mut L, replica: &mut R) -> Result<u64, Fault>
     requires legal { IsLegal L.Law.law (L.seen log.old) }
-    requires follows { Follows L.holds R.state R.spells (L.seen log.old) (R.shows replica.old) }
+    requires follows { Follows L.holds R.meaning (L.seen log.old) (R.shows replica.old) }
     requires bounded { IsKnown (L.reaches log.old) (R.shows replica.old) }
     ensures later { Later L.Law.law (L.seen log.old) (L.seen log.new) }
     ensures who { L.who log.new ≡ L.who log.old }
     ensures known { L.reaches log.old ≤ L.reaches log.new }
-    ensures follows { Follows L.holds R.state R.spells (L.seen log.new) (R.shows replica.new) }
+    ensures follows { Follows L.holds R.meaning (L.seen log.new) (R.shows replica.new) }
     ensures bounded { IsKnown (L.reaches log.new) (R.shows replica.new) }
 
     // The position is above each append, and not below any tail, that was answered before the call's first event.
@@ -204,14 +204,14 @@ pub fn sync<L: SharedLog, R: Replica>(log: &mut L, replica: &mut R) -> Result<u6
     // It is the log's tail, where no event of another came meanwhile and nothing was trimmed that wasn't played.
     ensures exact { IfOk result (λ tail. EndsBy (L.who log.old) (R.shows replica.old).cursor (L.seen log.old) tail (L.seen log.new)) }
     ensures forward { (R.shows replica.old).cursor ≤ (R.shows replica.new).cursor }
-    ensures goes_on { GoesOn L.holds R.state (L.seen log.new) (saved_in (R.shows replica.old)) (saved_in (R.shows replica.new)) }
+    ensures goes_on { GoesOn L.holds R.meaning.state (L.seen log.new) (saved_in (R.shows replica.old)) (saved_in (R.shows replica.new)) }
     ensures blames { IfErr result (λ f. Blames (L.who log.old) (L.seen log.old) (R.shows replica.old).faults f (L.seen log.new) (R.shows replica.new).faults) }
     ensures counts { (R.shows replica.old).faults ≤ (R.shows replica.new).faults }
     ensures kept { (R.shows replica.new).kept ≡ (R.shows replica.old).kept }
     ensures origin { (R.shows replica.new).origin ≡ (R.shows replica.old).origin }
     ensures arming { LeavesArming 0 (R.shows replica.old) (R.shows replica.new) }
     ensures twice { IfErr result (λ f. StoreTwice (R.shows replica.old) f (R.shows replica.new)) }
-    ensures any_crash { AnyCrash (R.shows replica.old).disk (R.shows replica.new).disk (SpellsOne R.spells (IsFound L.holds R.state (L.seen log.new) (R.shows replica.old).cursor)) }
+    ensures any_crash { AnyCrash (R.shows replica.old).disk (R.shows replica.new).disk (SpellsOne R.meaning.spells (IsFound L.holds R.meaning.state (L.seen log.new) (R.shows replica.old).cursor)) }
 {
     let tail = match log.check_tail() {
         Ok(tail) => tail,

@@ -176,19 +176,19 @@ fn catch_up<L: SharedLog, R: Replica>(
     requires legal { IsLegal L.Law.law (L.seen log.old) }
     requires may { All (λ e. MaySend L.Law.law.may (L.who log.old) e) outbox.old.entries.items }
     requires few { length outbox.old.entries.items ≤ 4 }
-    requires follows { Follows L.holds R.state R.spells (L.seen log.old) (R.shows replica.old) }
+    requires follows { Follows L.holds R.meaning (L.seen log.old) (R.shows replica.old) }
     requires bounded { IsKnown (L.reaches log.old) (R.shows replica.old) }
     ensures later { Later L.Law.law (L.seen log.old) (L.seen log.new) }
     ensures who { L.who log.new ≡ L.who log.old }
     ensures known { L.reaches log.old ≤ L.reaches log.new }
     ensures may { All (λ e. MaySend L.Law.law.may (L.who log.new) e) outbox.new.entries.items }
     ensures few { length outbox.new.entries.items ≤ 4 }
-    ensures follows { Follows L.holds R.state R.spells (L.seen log.new) (R.shows replica.new) }
+    ensures follows { Follows L.holds R.meaning (L.seen log.new) (R.shows replica.new) }
     ensures bounded { IsKnown (L.reaches log.new) (R.shows replica.new) }
     ensures forward { (R.shows replica.old).cursor ≤ (R.shows replica.new).cursor }
     ensures counts { (R.shows replica.old).faults ≤ (R.shows replica.new).faults }
     ensures origin { (R.shows replica.new).origin ≡ (R.shows replica.old).origin }
-    ensures any_crash { AnyCrash (R.shows replica.old).disk (R.shows replica.new).disk (SpellsOne R.spells (IsFound L.holds R.state (L.seen log.new) (R.shows replica.old).cursor)) }
+    ensures any_crash { AnyCrash (R.shows replica.old).disk (R.shows replica.new).disk (SpellsOne R.meaning.spells (IsFound L.holds R.meaning.state (L.seen log.new) (R.shows replica.old).cursor)) }
     ensures blames { IfErr result (λ f. Blames (L.who log.old) (L.seen log.old) (R.shows replica.old).faults f (L.seen log.new) (R.shows replica.new).faults) }
     ensures caught { OnOk result (CaughtUp L.holds (L.who log.old) (L.seen log.old) (view_of outbox.old) (L.seen log.new) (view_of outbox.new) (R.shows replica.new)) }
     ensures gave_up { IfErr result (λ f. GaveUp L.holds (L.who log.old) (L.seen log.old) (view_of outbox.old) session f (L.seen log.new) (view_of outbox.new)) }
@@ -224,19 +224,19 @@ fn is_ready<L: SharedLog, R: Replica>(
     requires legal { IsLegal L.Law.law (L.seen log.old) }
     requires may { All (λ e. MaySend L.Law.law.may (L.who log.old) e) outbox.old.entries.items }
     requires few { length outbox.old.entries.items ≤ 4 }
-    requires follows { Follows L.holds R.state R.spells (L.seen log.old) (R.shows replica.old) }
+    requires follows { Follows L.holds R.meaning (L.seen log.old) (R.shows replica.old) }
     requires bounded { IsKnown (L.reaches log.old) (R.shows replica.old) }
     ensures later { Later L.Law.law (L.seen log.old) (L.seen log.new) }
     ensures who { L.who log.new ≡ L.who log.old }
     ensures known { L.reaches log.old ≤ L.reaches log.new }
     ensures may { All (λ e. MaySend L.Law.law.may (L.who log.new) e) outbox.new.entries.items }
     ensures few { length outbox.new.entries.items ≤ 4 }
-    ensures follows { Follows L.holds R.state R.spells (L.seen log.new) (R.shows replica.new) }
+    ensures follows { Follows L.holds R.meaning (L.seen log.new) (R.shows replica.new) }
     ensures bounded { IsKnown (L.reaches log.new) (R.shows replica.new) }
     ensures forward { (R.shows replica.old).cursor ≤ (R.shows replica.new).cursor }
     ensures counts { (R.shows replica.old).faults ≤ (R.shows replica.new).faults }
     ensures origin { (R.shows replica.new).origin ≡ (R.shows replica.old).origin }
-    ensures any_crash { AnyCrash (R.shows replica.old).disk (R.shows replica.new).disk (SpellsOne R.spells (IsFound L.holds R.state (L.seen log.new) (R.shows replica.old).cursor)) }
+    ensures any_crash { AnyCrash (R.shows replica.old).disk (R.shows replica.new).disk (SpellsOne R.meaning.spells (IsFound L.holds R.meaning.state (L.seen log.new) (R.shows replica.old).cursor)) }
     ensures blames { IfErr result (λ f. Blames (L.who log.old) (L.seen log.old) (R.shows replica.old).faults f (L.seen log.new) (R.shows replica.new).faults) }
     ensures near { IsNear (R.shows replica.old).contents item.now → IfOk result (λ ready. ready ≡ true) × IfErr result (λ f. f ≡ Fault.Memory) × (L.seen log.new ≡ L.seen log.old) × (view_of outbox.new ≡ view_of outbox.old) × (R.shows replica.new ≡ R.shows replica.old) }
     ensures ready { IfOk result (λ ready. Readied L.holds (L.who log.old) (L.seen log.old) (view_of outbox.old) item.now ready (L.seen log.new) (view_of outbox.new) (R.shows replica.new)) }
@@ -279,7 +279,7 @@ pub fn propose<L: SharedLog, R: Replica>(
     requires legal { IsLegal L.Law.law (L.seen log.old) }
     requires may { All (λ e. MaySend L.Law.law.may (L.who log.old) e) outbox.old.entries.items }
     requires few { length outbox.old.entries.items ≤ 4 }
-    requires follows { Follows L.holds R.state R.spells (L.seen log.old) (R.shows replica.old) }
+    requires follows { Follows L.holds R.meaning (L.seen log.old) (R.shows replica.old) }
     requires bounded { IsKnown (L.reaches log.old) (R.shows replica.old) }
     requires item { IsProposable item }
     requires own { L.Law.law.may (L.who log.old) (packed (R.shows replica.old).origin ((R.shows replica.old).kept ++ item ∷ [])) }
@@ -289,12 +289,12 @@ pub fn propose<L: SharedLog, R: Replica>(
     ensures known { L.reaches log.old ≤ L.reaches log.new }
     ensures may { All (λ e. MaySend L.Law.law.may (L.who log.new) e) outbox.new.entries.items }
     ensures few { length outbox.new.entries.items ≤ 4 }
-    ensures follows { Follows L.holds R.state R.spells (L.seen log.new) (R.shows replica.new) }
+    ensures follows { Follows L.holds R.meaning (L.seen log.new) (R.shows replica.new) }
     ensures bounded { IsKnown (L.reaches log.new) (R.shows replica.new) }
     ensures forward { (R.shows replica.old).cursor ≤ (R.shows replica.new).cursor }
     ensures counts { (R.shows replica.old).faults ≤ (R.shows replica.new).faults }
     ensures origin { (R.shows replica.new).origin ≡ (R.shows replica.old).origin }
-    ensures any_crash { AnyCrash (R.shows replica.old).disk (R.shows replica.new).disk (SpellsOne R.spells (IsFound L.holds R.state (L.seen log.new) (R.shows replica.old).cursor)) }
+    ensures any_crash { AnyCrash (R.shows replica.old).disk (R.shows replica.new).disk (SpellsOne R.meaning.spells (IsFound L.holds R.meaning.state (L.seen log.new) (R.shows replica.old).cursor)) }
     ensures blames { IfErr result (λ f. Blames (L.who log.old) (L.seen log.old) (R.shows replica.old).faults f (L.seen log.new) (R.shows replica.new).faults) }
     ensures proposed { OnOk result (Proposed L.holds (L.who log.old) (L.seen log.old) (view_of outbox.old) (R.shows replica.old) item (L.seen log.new) (view_of outbox.new) (R.shows replica.new)) }
     ensures refused { IfErr result (λ f. Refused L.holds (L.who log.old) (L.seen log.old) (view_of outbox.old) item f (L.seen log.new) (view_of outbox.new)) }

@@ -37,7 +37,7 @@ impl<R: Replica> Rested<R> {
     /// The node as it was, with this log, of which all that it has holds (`what_a_node_has_stays`). Makes no event, and
     /// takes no memory.
     pub fn wake<L: SharedLog>(self, log: L) -> Node<L, R>
-        requires ok { NodeOk L.Law.law L.holds R.state R.spells (awake self (L.who log) (L.seen log) (L.reaches log)) }
+        requires ok { NodeOk L.Law.law L.holds R.meaning (awake self (L.who log) (L.seen log) (L.reaches log)) }
         ensures { result ≡ awake self (L.who log) (L.seen log) (L.reaches log) }
     {
         let Rested {
@@ -59,6 +59,6 @@ impl<R: Replica> Rested<R> {
 /// What a node has of its log at a moment it has at every later one.
 pub fn what_a_node_has_stays<L: SharedLog, R: Replica>()
     ensures { (r : RestedView) (who known known' : ℕ) (early late : List Event) → IsLegal L.Law.law (early ++ late) → known ≤ known'
-        → NodeOk L.Law.law L.holds R.state R.spells (awake r who early known)
-        → NodeOk L.Law.law L.holds R.state R.spells (awake r who (early ++ late) known') }
+        → NodeOk L.Law.law L.holds R.meaning (awake r who early known)
+        → NodeOk L.Law.law L.holds R.meaning (awake r who (early ++ late) known') }
 {}

@@ -68,12 +68,12 @@ fn find_least<L: SharedLog, R: Replica>(
 ) -> Result<u64, Fault>
     requires nodes { nodes ≤ 8 }
     requires legal { IsLegal L.Law.law (L.seen log.old) }
-    requires follows { Follows L.holds R.state R.spells (L.seen log.old) (R.shows replica.old) }
+    requires follows { Follows L.holds R.meaning (L.seen log.old) (R.shows replica.old) }
     requires bounded { IsKnown (L.reaches log.old) (R.shows replica.old) }
     ensures later { Later L.Law.law (L.seen log.old) (L.seen log.new) }
     ensures who { L.who log.new ≡ L.who log.old }
     ensures known { L.reaches log.old ≤ L.reaches log.new }
-    ensures follows { Follows L.holds R.state R.spells (L.seen log.new) (R.shows replica.new) }
+    ensures follows { Follows L.holds R.meaning (L.seen log.new) (R.shows replica.new) }
     ensures bounded { IsKnown (L.reaches log.new) (R.shows replica.new) }
     ensures forward { (R.shows replica.old).cursor ≤ (R.shows replica.new).cursor }
     ensures counts { (R.shows replica.old).faults ≤ (R.shows replica.new).faults }
@@ -81,9 +81,9 @@ fn find_least<L: SharedLog, R: Replica>(
     ensures origin { (R.shows replica.new).origin ≡ (R.shows replica.old).origin }
     ensures arming { LeavesArming 0 (R.shows replica.old) (R.shows replica.new) }
     ensures twice { IfErr result (λ f. StoreTwice (R.shows replica.old) f (R.shows replica.new)) }
-    ensures any_crash { AnyCrash (R.shows replica.old).disk (R.shows replica.new).disk (SpellsOne R.spells (IsFound L.holds R.state (L.seen log.new) (R.shows replica.old).cursor)) }
+    ensures any_crash { AnyCrash (R.shows replica.old).disk (R.shows replica.new).disk (SpellsOne R.meaning.spells (IsFound L.holds R.meaning.state (L.seen log.new) (R.shows replica.old).cursor)) }
     ensures blames { IfErr result (λ f. Blames (L.who log.old) (L.seen log.old) (R.shows replica.old).faults f (L.seen log.new) (R.shows replica.new).faults) }
-    ensures found { IfOk result (IsLeastAtTail L.holds R.state nodes (L.who log.old) (L.seen log.old) (L.seen log.new) (R.shows replica.new)) }
+    ensures found { IfOk result (IsLeastAtTail L.holds R.meaning.state nodes (L.who log.old) (L.seen log.old) (L.seen log.new) (R.shows replica.new)) }
 {
     match sync(log, replica) {
         Ok(_) => {}
@@ -106,7 +106,7 @@ fn push_through<L: SharedLog, R: Replica>(
     requires legal { IsLegal L.Law.law (L.seen log.old) }
     requires may { All (λ e. MaySend L.Law.law.may (L.who log.old) e) outbox.old.entries.items }
     requires few { length outbox.old.entries.items ≤ 4 }
-    requires follows { Follows L.holds R.state R.spells (L.seen log.old) (R.shows replica.old) }
+    requires follows { Follows L.holds R.meaning (L.seen log.old) (R.shows replica.old) }
     requires bounded { IsKnown (L.reaches log.old) (R.shows replica.old) }
     requires item { IsProposable item }
     requires plain { under 2 item ≡ None }
@@ -117,14 +117,14 @@ fn push_through<L: SharedLog, R: Replica>(
     ensures known { L.reaches log.old ≤ L.reaches log.new }
     ensures may { All (λ e. MaySend L.Law.law.may (L.who log.new) e) outbox.new.entries.items }
     ensures few { length outbox.new.entries.items ≤ 4 }
-    ensures follows { Follows L.holds R.state R.spells (L.seen log.new) (R.shows replica.new) }
+    ensures follows { Follows L.holds R.meaning (L.seen log.new) (R.shows replica.new) }
     ensures bounded { IsKnown (L.reaches log.new) (R.shows replica.new) }
     ensures forward { (R.shows replica.old).cursor ≤ (R.shows replica.new).cursor }
     ensures counts { (R.shows replica.old).faults ≤ (R.shows replica.new).faults }
     ensures origin { (R.shows replica.new).origin ≡ (R.shows replica.old).origin }
     ensures arming { LeavesArming 0 (R.shows replica.old) (R.shows replica.new) }
     ensures waiting { (R.shows replica.new).kept ≢ [] → L.Law.law.may (L.who log.old) (packed (R.shows replica.old).origin (R.shows replica.new).kept) }
-    ensures any_crash { AnyCrash (R.shows replica.old).disk (R.shows replica.new).disk (SpellsOne R.spells (IsFound L.holds R.state (L.seen log.new) (R.shows replica.old).cursor)) }
+    ensures any_crash { AnyCrash (R.shows replica.old).disk (R.shows replica.new).disk (SpellsOne R.meaning.spells (IsFound L.holds R.meaning.state (L.seen log.new) (R.shows replica.old).cursor)) }
     ensures landed { OnOk result (HasLanded L.holds (L.who log.old) (R.shows replica.old).origin (L.seen log.old) item (L.seen log.new)) }
     ensures blames { (view_of outbox.old).unsettled ≡ None → IfErr result (λ f. Blames (L.who log.old) (L.seen log.old) (R.shows replica.old).faults f (L.seen log.new) (R.shows replica.new).faults) }
     ensures twice { (view_of outbox.old).unsettled ≡ None → IfErr result (λ f. StoreTwice (R.shows replica.old) f (R.shows replica.new)) }
@@ -163,7 +163,7 @@ pub fn trim_applied<L: SharedLog, R: Replica>(
     requires nodes { nodes ≤ 8 }
     requires shown { ShowsAll L.Law.law L.holds }
     requires legal { IsLegal L.Law.law (L.seen log.old) }
-    requires follows { Follows L.holds R.state R.spells (L.seen log.old) (R.shows replica.now) }
+    requires follows { Follows L.holds R.meaning (L.seen log.old) (R.shows replica.now) }
     requires bounded { IsKnown (L.reaches log.old) (R.shows replica.now) }
     requires free { (front : List Entry) → IsFront L.holds (L.seen log.old) front → length front ≡ (R.shows replica.now).cursor → L.Law.law.floor front (trim_to nodes (R.shows replica.now)) }
     ensures later { Later L.Law.law (L.seen log.old) (L.seen log.new) }
@@ -190,15 +190,15 @@ fn trim_below<L: SharedLog, R: Replica>(
     nodes: u8,
 ) -> Result<u64, Fault>
     requires nodes { nodes ≤ 8 }
-    requires floor { IsFloor R.state L.Law.law.floor nodes }
+    requires floor { IsFloor R.meaning.state L.Law.law.floor nodes }
     requires shown { ShowsAll L.Law.law L.holds }
     requires legal { IsLegal L.Law.law (L.seen log.old) }
-    requires follows { Follows L.holds R.state R.spells (L.seen log.old) (R.shows replica.old) }
+    requires follows { Follows L.holds R.meaning (L.seen log.old) (R.shows replica.old) }
     requires bounded { IsKnown (L.reaches log.old) (R.shows replica.old) }
     ensures later { Later L.Law.law (L.seen log.old) (L.seen log.new) }
     ensures who { L.who log.new ≡ L.who log.old }
     ensures known { L.reaches log.new ≡ L.reaches log.old }
-    ensures follows { Follows L.holds R.state R.spells (L.seen log.new) (R.shows replica.new) }
+    ensures follows { Follows L.holds R.meaning (L.seen log.new) (R.shows replica.new) }
     ensures bounded { IsKnown (L.reaches log.new) (R.shows replica.new) }
     ensures forward { (R.shows replica.old).cursor ≤ (R.shows replica.new).cursor }
     ensures counts { (R.shows replica.old).faults ≤ (R.shows replica.new).faults }
@@ -206,7 +206,7 @@ fn trim_below<L: SharedLog, R: Replica>(
     ensures origin { (R.shows replica.new).origin ≡ (R.shows replica.old).origin }
     ensures arming { LeavesArming 0 (R.shows replica.old) (R.shows replica.new) }
     ensures twice { IfErr result (λ f. StoreTwice (R.shows replica.old) f (R.shows replica.new)) }
-    ensures any_crash { AnyCrash (R.shows replica.old).disk (R.shows replica.new).disk (SpellsOne R.spells (IsFound L.holds R.state (L.seen log.new) (R.shows replica.old).cursor)) }
+    ensures any_crash { AnyCrash (R.shows replica.old).disk (R.shows replica.new).disk (SpellsOne R.meaning.spells (IsFound L.holds R.meaning.state (L.seen log.new) (R.shows replica.old).cursor)) }
     ensures blames { IfErr result (λ f. Blames (L.who log.old) (L.seen log.old) (R.shows replica.old).faults f (L.seen log.new) (R.shows replica.new).faults) }
     ensures trims { IfOk result (TrimsBelow nodes (L.who log.old) (L.seen log.old) (L.seen log.new) (R.shows replica.new) (L.reaches log.new)) }
 {
@@ -234,12 +234,12 @@ pub fn trim_now<L: SharedLog, R: Replica>(
     nodes: u8,
 ) -> Result<u64, Fault>
     requires nodes { nodes ≤ 8 }
-    requires floor { IsFloor R.state L.Law.law.floor nodes }
+    requires floor { IsFloor R.meaning.state L.Law.law.floor nodes }
     requires shown { ShowsAll L.Law.law L.holds }
     requires legal { IsLegal L.Law.law (L.seen log.old) }
     requires may { All (λ e. MaySend L.Law.law.may (L.who log.old) e) outbox.old.entries.items }
     requires few { length outbox.old.entries.items ≤ 4 }
-    requires follows { Follows L.holds R.state R.spells (L.seen log.old) (R.shows replica.old) }
+    requires follows { Follows L.holds R.meaning (L.seen log.old) (R.shows replica.old) }
     requires bounded { IsKnown (L.reaches log.old) (R.shows replica.old) }
     requires own { (position : ℕ) → position < 2 ^ 64 → L.Law.law.may (L.who log.old) (packed (R.shows replica.old).origin ((R.shows replica.old).kept ++ trim_item position ∷ [])) }
     requires waits { (R.shows replica.old).kept ≢ [] → L.Law.law.may (L.who log.old) (packed (R.shows replica.old).origin (R.shows replica.old).kept) }
@@ -248,15 +248,15 @@ pub fn trim_now<L: SharedLog, R: Replica>(
     ensures known { L.reaches log.old ≤ L.reaches log.new }
     ensures may { All (λ e. MaySend L.Law.law.may (L.who log.new) e) outbox.new.entries.items }
     ensures few { length outbox.new.entries.items ≤ 4 }
-    ensures follows { Follows L.holds R.state R.spells (L.seen log.new) (R.shows replica.new) }
+    ensures follows { Follows L.holds R.meaning (L.seen log.new) (R.shows replica.new) }
     ensures bounded { IsKnown (L.reaches log.new) (R.shows replica.new) }
     ensures forward { (R.shows replica.old).cursor ≤ (R.shows replica.new).cursor }
     ensures counts { (R.shows replica.old).faults ≤ (R.shows replica.new).faults }
     ensures origin { (R.shows replica.new).origin ≡ (R.shows replica.old).origin }
     ensures arming { LeavesArming 0 (R.shows replica.old) (R.shows replica.new) }
     ensures waiting { (R.shows replica.new).kept ≢ [] → L.Law.law.may (L.who log.old) (packed (R.shows replica.old).origin (R.shows replica.new).kept) }
-    ensures any_crash { AnyCrash (R.shows replica.old).disk (R.shows replica.new).disk (SpellsOne R.spells (IsFound L.holds R.state (L.seen log.new) (R.shows replica.old).cursor)) }
-    ensures trims { IfOk result (Trims L.holds R.state nodes (L.who log.old) (R.shows replica.old).origin (L.seen log.old) (L.seen log.new) (R.shows replica.new) (L.reaches log.new)) }
+    ensures any_crash { AnyCrash (R.shows replica.old).disk (R.shows replica.new).disk (SpellsOne R.meaning.spells (IsFound L.holds R.meaning.state (L.seen log.new) (R.shows replica.old).cursor)) }
+    ensures trims { IfOk result (Trims L.holds R.meaning.state nodes (L.who log.old) (R.shows replica.old).origin (L.seen log.old) (L.seen log.new) (R.shows replica.new) (L.reaches log.new)) }
     ensures blames { (view_of outbox.old).unsettled ≡ None → IfErr result (λ f. Blames (L.who log.old) (L.seen log.old) (R.shows replica.old).faults f (L.seen log.new) (R.shows replica.new).faults) }
     ensures twice { (view_of outbox.old).unsettled ≡ None → IfErr result (λ f. StoreTwice (R.shows replica.old) f (R.shows replica.new)) }
 {

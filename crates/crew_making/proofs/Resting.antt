@@ -3,15 +3,13 @@ use Rattle.std.proofs.Common.{◌≡◌, refl, sym, ap, ◌∙◌, subst, ℕ, z
 use Rattle.std.specs.Prelude.{Contains, get_or, slice_get, All}
 use Rattle.std.proofs.lemmas.Option.{slice_get_within}
 use Rattle.std.specs.List.{AllByRecursion}
-use Rattle.delos_types.specs.Spaces.{SpaceMap}
-use Rattle.delos_types.specs.declared.entry.Entry.{Entry}
 use Rattle.legal_journal.specs.Law.{Law}
 use Rattle.legal_journal.specs.declared.events.Event.{Event}
 use Rattle.engine_api.specs.Acted.{asked_in}
 use Rattle.engine_api.specs.Order.{gap_from}
 use Rattle.engine_steps.specs.declared.layout.Kept.{Kept}
 use Rattle.base_engine.specs.Settling.{OutboxView, cause_in}
-use Rattle.replica_api.specs.Replica.{Saved}
+use Rattle.replica_api.specs.Replica.{Meaning}
 use Rattle.script_text.specs.declared.asks.NamedLine.{NamedLine}
 use Rattle.turn_scopes.specs.Seats.{SeatView, node_of}
 use Rattle.node_lines.specs.declared.desk.Desk.{Desk}
@@ -78,19 +76,19 @@ no_moment (suc p) = refl
 
 -- A node, and the run
 
-module _ (law : Law) (lines : List NamedLine) (looks : List (Option Looked)) (size : length looks ≡ length lines) (none : AllByRecursion (λ look. look ≡ None) looks) (state : List Entry → SpaceMap → Type 0) (spells : List ℕ → Saved → Type 0) where
-  module _ (nodes n : ℕ) (seat : SeatView) (desks : List Desk) (w : IsNewWorker (record law { may = Sends n law.may [] [] }) state spells nodes n seat desks) where
+module _ (law : Law) (lines : List NamedLine) (looks : List (Option Looked)) (size : length looks ≡ length lines) (none : AllByRecursion (λ look. look ≡ None) looks) (meaning : Meaning) where
+  module _ (nodes n : ℕ) (seat : SeatView) (desks : List Desk) (w : IsNewWorker (record law { may = Sends n law.may [] [] }) meaning nodes n seat desks) where
     kept : seat.node.replica.kept ≡ []
     kept = w.waits.replica.nothing_waits
 
     known : (s : ℕ) (d : Desk) → slice_get desks s ≡ Some d → s ≤ 63
     known s d at = let low = slice_get_within desks s d at in omega (arith, low, w.desks_are.size)
 
-    worker_ok : WorkerOk law state spells n [] seat desks
+    worker_ok : WorkerOk law meaning n [] seat desks
     worker_ok = record {
       who_is = w.waits.who_is;
       origin = w.waits.replica.origin_is;
-      ok = seat_wider (record law { may = Sends n law.may [] [] }) (record law { may = Sends n law.may (sent_by desks) [] }) (record { may = λ user e k. sends_more n law.may [] (sent_by desks) [] (λ s. omega arith) user e k; floor = λ log m k. k; shelf = refl }) state spells [] seat w.waits.ok;
+      ok = seat_wider (record law { may = Sends n law.may [] [] }) (record law { may = Sends n law.may (sent_by desks) [] }) (record { may = λ user e k. sends_more n law.may [] (sent_by desks) [] (λ s. omega arith) user e k; floor = λ log m k. k; shelf = refl }) meaning [] seat w.waits.ok;
       packs = subst CanPack (sym kept) (record { each = λ k d low. absurd (omega (arith, low)); few = omega arith });
       waits = subst (All IsOfSession) (sym kept) (λ k d low. absurd (omega (arith, low)));
       size = w.desks_are.size;
@@ -107,11 +105,11 @@ module _ (law : Law) (lines : List NamedLine) (looks : List (Option Looked)) (si
       stopped = λ s d at. (w.desks_are.each s d at).goes_on;
     }
 
-    worker_rests : (home : ℕ → ℕ) → Rests law state spells lines home nodes first_course looks n 0 0 seat desks
-    worker_rests home = node_opens law state spells lines home nodes looks n seat desks size none w.waits.nodes_is has_not_begun worker_ok
+    worker_rests : (home : ℕ → ℕ) → Rests law meaning lines home nodes first_course looks n 0 0 seat desks
+    worker_rests home = node_opens law meaning lines home nodes looks n seat desks size none w.waits.nodes_is has_not_begun worker_ok
 
   pub crew_rests : {A : Type 0} (home : ℕ → ℕ) (seat : A → SeatView) (desks : A → List Desk) (workers : List A) → AreLines lines home (length workers)
-      → AreNewWorkers (λ n. record law { may = Sends n law.may [] [] }) state spells (length workers) seat desks workers → CrewRests law state spells lines 0 0 [] looks seat desks workers
+      → AreNewWorkers (λ n. record law { may = Sends n law.may [] [] }) meaning (length workers) seat desks workers → CrewRests law meaning lines 0 0 [] looks seat desks workers
   crew_rests home seat desks workers are new = record {
     home = home;
     courses = λ n. first_course;
@@ -128,6 +126,6 @@ module _ (law : Law) (lines : List NamedLine) (looks : List (Option Looked)) (si
     each = λ j w at. worker_rests (length workers) (j + 1) (seat w) (desks w) (new j w at) home;
   }
 
-pub new_stands : {A : Type 0} (law : Law) (state : List Entry → SpaceMap → Type 0) (spells : List ℕ → Saved → Type 0) (nodes : ℕ) (seat : A → SeatView) (desks : A → List Desk) (workers : List A)
-    → AreNewWorkers (λ n. record law { may = Sends n law.may [] [] }) state spells nodes seat desks workers → CrewStands law state spells [] seat workers
-new_stands law state spells nodes seat desks workers new = λ j w at. seat_allowed law (j + 1) [] state spells [] (seat w) (new j w at).waits.ok
+pub new_stands : {A : Type 0} (law : Law) (meaning : Meaning) (nodes : ℕ) (seat : A → SeatView) (desks : A → List Desk) (workers : List A)
+    → AreNewWorkers (λ n. record law { may = Sends n law.may [] [] }) meaning nodes seat desks workers → CrewStands law meaning [] seat workers
+new_stands law meaning nodes seat desks workers new = λ j w at. seat_allowed law (j + 1) [] meaning [] (seat w) (new j w at).waits.ok

@@ -1,11 +1,9 @@
 -- What a node is before a run.
 use Rattle.std.specs.Prelude.{◌≡◌, ℕ, ◌+◌, List, [], ◌∷◌, length, slice_get, Some, None}
-use Rattle.delos_types.specs.Spaces.{SpaceMap}
-use Rattle.delos_types.specs.declared.entry.Entry.{Entry}
 use Rattle.chain_map.specs.Chain.{first_chain}
 use Rattle.legal_journal.specs.Law.{Law}
 use Rattle.virtual_log.specs.Log as log
-use Rattle.replica_api.specs.Replica.{Saved, ReplicaView}
+use Rattle.replica_api.specs.Replica.{Meaning, ReplicaView}
 use Rattle.replica_api.specs.Fresh.{IsFreshReplica}
 use Rattle.turn_scopes.specs.Seats.{SeatView, SeatOk}
 use Rattle.node_lines.specs.declared.desk.Desk.{Desk}
@@ -36,23 +34,23 @@ abbrev pub AreFreshDesks : List Desk → Type 0
 AreFreshDesks desks = AreDesksUpTo 64 desks
 
 -- replicas of the nodes from this number on
-abbrev pub AreFreshFrom : (List Entry → SpaceMap → Type 0) → (List ℕ → Saved → Type 0) → ℕ → List ReplicaView → Type 0
-AreFreshFrom state spells n [] = Unit {0}
-AreFreshFrom state spells n (v ∷ vs) = IsFreshReplica state spells n v × AreFreshFrom state spells (n + 1) vs
+abbrev pub AreFreshFrom : Meaning → ℕ → List ReplicaView → Type 0
+AreFreshFrom meaning n [] = Unit {0}
+AreFreshFrom meaning n (v ∷ vs) = IsFreshReplica meaning n v × AreFreshFrom meaning (n + 1) vs
 
 -- one of so many nodes that waits for its first turn: it has sent nothing, and may take the fabric before any event
-pub record IsNewSeat (law : Law) (state : List Entry → SpaceMap → Type 0) (spells : List ℕ → Saved → Type 0) (nodes who : ℕ) (seat : SeatView) : Type 0 where
+pub record IsNewSeat (law : Law) (meaning : Meaning) (nodes who : ℕ) (seat : SeatView) : Type 0 where
   pub who_is : seat.who ≡ who
   pub nodes_is : seat.node.nodes ≡ nodes
-  pub replica : IsFreshReplica state spells who seat.node.replica
+  pub replica : IsFreshReplica meaning who seat.node.replica
   pub outbox : seat.node.outbox ≡ record { entries = []; given = []; unsettled = None }
-  pub ok : SeatOk law state spells [] seat
+  pub ok : SeatOk law meaning [] seat
 
 -- a node, and the desks of the sessions
-pub record IsNewWorker (law : Law) (state : List Entry → SpaceMap → Type 0) (spells : List ℕ → Saved → Type 0) (nodes who : ℕ) (seat : SeatView) (desks : List Desk) : Type 0 where
-  pub waits : IsNewSeat law state spells nodes who seat
+pub record IsNewWorker (law : Law) (meaning : Meaning) (nodes who : ℕ) (seat : SeatView) (desks : List Desk) : Type 0 where
+  pub waits : IsNewSeat law meaning nodes who seat
   pub desks_are : AreFreshDesks desks
 
 -- all of so many nodes, numbered from 1, each by its own scope
-abbrev pub AreNewWorkers : {A : Type 0} → (ℕ → Law) → (List Entry → SpaceMap → Type 0) → (List ℕ → Saved → Type 0) → ℕ → (A → SeatView) → (A → List Desk) → List A → Type 0
-AreNewWorkers {A} law state spells nodes seat desks workers = (j : ℕ) (w : A) → slice_get workers j ≡ Some w → IsNewWorker (law (j + 1)) state spells nodes (j + 1) (seat w) (desks w)
+abbrev pub AreNewWorkers : {A : Type 0} → (ℕ → Law) → Meaning → ℕ → (A → SeatView) → (A → List Desk) → List A → Type 0
+AreNewWorkers {A} law meaning nodes seat desks workers = (j : ℕ) (w : A) → slice_get workers j ≡ Some w → IsNewWorker (law (j + 1)) meaning nodes (j + 1) (seat w) (desks w)

@@ -43,8 +43,8 @@ fn seat_within<K: Terms, Q: Scope, S: Replica, C: Chooser>(
     requires eight { nodes ≤ 8 }
     requires legal { IsLegal Q.law [] }
     requires log { IsFreshLog (length Q.law.shelf) log }
-    requires fresh { IsFreshReplica S.state S.spells who (S.shows replica) }
-    ensures seat { IsNewSeat Q.law S.state S.spells nodes who result }
+    requires fresh { IsFreshReplica S.meaning who (S.shows replica) }
+    ensures seat { IsNewSeat Q.law S.meaning nodes who result }
     ensures replica { result.node.replica ≡ S.shows replica }
 {
     let log = log.wake(Early::<Within<By<K>, Q>>::new(who));
@@ -63,9 +63,9 @@ fn seat_all<K: Terms, S: Replica, C: Chooser>(
     requires legal { IsLegal K.law [] }
     requires logs { AllByRecursion (λ b. IsFreshLog (length K.law.shelf) b.log) berths.items }
     requires desks { AllByRecursion (λ b. AreFreshDesks b.desks.items) berths.items }
-    requires fresh { AreFreshFrom S.state S.spells 1 (map (λ b. S.shows b.replica) berths.items) }
+    requires fresh { AreFreshFrom S.meaning 1 (map (λ b. S.shows b.replica) berths.items) }
     requires room { (workers.items ≡ []) × (length berths.items ≤ vec_capacity workers) }
-    ensures workers { AreNewWorkers (λ n. record K.law { may = Sends n K.law.may [] [] }) S.state S.spells (length berths.items) (λ w. w.seat) (λ w. w.desks.items) result.items }
+    ensures workers { AreNewWorkers (λ n. record K.law { may = Sends n K.law.may [] [] }) S.meaning (length berths.items) (λ w. w.seat) (λ w. w.desks.items) result.items }
     ensures replicas { map (λ w. w.seat.node.replica) result.items ≡ map (λ b. S.shows b.replica) berths.items }
 {
     let nodes = berths.len() as u8;
@@ -112,10 +112,10 @@ pub fn make_crew<L: Loglet, R: Register, K: Terms, S: Replica, C: Chooser>(
     requires sound { All (λ l. IsSound (L.view l)) cells.items }
     requires register { view.IsFresh (R.view register) }
     requires eight { length nodes.old.items ≤ 8 }
-    requires nodes { (j : ℕ) (n : OpenNode S C) → slice_get nodes.old.items j ≡ Some n → IsFreshReplica S.state S.spells (j + 1) (S.shows n.replica) }
+    requires nodes { (j : ℕ) (n : OpenNode S C) → slice_get nodes.old.items j ≡ Some n → IsFreshReplica S.meaning (j + 1) (S.shows n.replica) }
     requires lines { (home : ℕ → ℕ) × AreLines lines.now home (length nodes.old.items) }
-    ensures rests { IfOk result (λ crew. CrewRests K.law S.state S.spells lines.now 0 0 crew.fabric.journal crew.looks.items (λ w. w.seat) (λ w. w.desks.items) crew.workers.items) }
-    ensures stands { IfOk result (λ crew. CrewStands K.law S.state S.spells crew.fabric.journal (λ w. w.seat) crew.workers.items) }
+    ensures rests { IfOk result (λ crew. CrewRests K.law S.meaning lines.now 0 0 crew.fabric.journal crew.looks.items (λ w. w.seat) (λ w. w.desks.items) crew.workers.items) }
+    ensures stands { IfOk result (λ crew. CrewStands K.law S.meaning crew.fabric.journal (λ w. w.seat) crew.workers.items) }
     ensures none { IfOk result (λ crew. crew.fabric.journal ≡ []) }
     ensures told { IfOk result (λ crew. AreAsTold K.law [] crew.fabric.cells crew.fabric.register) }
 

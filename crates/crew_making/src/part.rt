@@ -33,7 +33,7 @@ fn part_within<A: Access, Q: Scope, S: Replica, C: Chooser>(
 ) -> Apart<A, S, C>
     requires who { seat.who ≡ A.who access }
     requires narrows { Narrows Q.law A.Law.law (A.beside (A.who access)) }
-    requires seat { SeatOk Q.law S.state S.spells (A.seen access) seat }
+    requires seat { SeatOk Q.law S.meaning (A.seen access) seat }
     requires whose { Q.who ≡ A.who access }
     requires since { Q.since ≡ A.seen access }
     ensures replica { S.shows result.node.replica ≡ seat.node.replica }
@@ -57,7 +57,7 @@ pub fn part_crew<L: Loglet, R: Register, K: Terms, S: Replica, C: Chooser>(
     crew: Crew<L, R, K, S, C>,
     nodes: &mut Vec<OpenNode<S, C>>,
 ) -> Parts<L, R>
-    requires stands { CrewStands K.law S.state S.spells crew.fabric.journal (λ w. w.seat) crew.workers.items }
+    requires stands { CrewStands K.law S.meaning crew.fabric.journal (λ w. w.seat) crew.workers.items }
     requires none { nodes.old.items ≡ [] }
     requires room { length crew.workers.items ≤ vec_capacity nodes.old }
     ensures told { AreAsTold K.law crew.fabric.journal (map L.view result.cells.items) (R.view result.register) }

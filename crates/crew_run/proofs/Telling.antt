@@ -1,13 +1,11 @@
 -- What stands once the chain was read last.
 use Rattle.std.proofs.Common.{◌≡◌, sym, ◌∙◌, subst, inl, inr, ℕ, List, [], ◌∷◌, ◌++◌}
-use Rattle.delos_types.specs.Spaces.{SpaceMap}
-use Rattle.delos_types.specs.declared.entry.Entry.{Entry}
 use Rattle.legal_journal.specs.Law.{Law}
 use Rattle.legal_journal.specs.declared.events.Event.{Event}
 use Rattle.legal_journal.specs.declared.events.FabricCall.{FabricCall}
 use Rattle.legal_journal.specs.declared.events.FabricCall.TheVariants.{ReadChain, MendMeta}
 use Rattle.legal_journal.specs.Journal.{IsLegal}
-use Rattle.replica_api.specs.Replica.{Saved}
+use Rattle.replica_api.specs.Replica.{Meaning}
 use Rattle.turn_scopes.specs.Alone.{OwnSince, AreOwn}
 use Rattle.turn_scopes.specs.Seats.{SeatView, SeatOk}
 use Rattle.node_lines.proofs.Staying.{seat_later}
@@ -16,11 +14,11 @@ use Rattle.run_ends.specs.Reads.{AreReads}
 use Rattle.last_chain.specs.Last.{AsksOnce, AskedOnce, calls_of}
 
 -- each node can take the fabric still
-pub stands_on : {A : Type 0} (law : Law) (state : List Entry → SpaceMap → Type 0) (spells : List ℕ → Saved → Type 0) (who : ℕ) (early new : List Event) (seat : A → SeatView) (workers : List A)
-    → OwnSince who early new → IsLegal law new → CrewStands law state spells early seat workers → CrewStands law state spells new seat workers
-stands_on law state spells who early new seat workers since legal h = λ j w at.
-    subst (λ l. SeatOk law state spells l (seat w)) (sym since.seen)
-    (seat_later law early since.more (subst (IsLegal law) since.seen legal) state spells (seat w) (h j w at))
+pub stands_on : {A : Type 0} (law : Law) (meaning : Meaning) (who : ℕ) (early new : List Event) (seat : A → SeatView) (workers : List A)
+    → OwnSince who early new → IsLegal law new → CrewStands law meaning early seat workers → CrewStands law meaning new seat workers
+stands_on law meaning who early new seat workers since legal h = λ j w at.
+    subst (λ l. SeatOk law meaning l (seat w)) (sym since.seen)
+    (seat_later law early since.more (subst (IsLegal law) since.seen legal) meaning (seat w) (h j w at))
 
 tail_same : (x : Event) (xs ys : List Event) → x ∷ xs ≡ x ∷ ys → xs ≡ ys
 tail_same x xs ys h = cc

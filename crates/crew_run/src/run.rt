@@ -20,6 +20,7 @@ use crew_making::part::part_crew;
 use fabric_core::fabric::Parts;
 use fate_words::chooser::Chooser;
 use fitting_run::told::Told;
+use gate_points::Gate;
 use loglet_api::loglet::Loglet;
 use register_api::Register;
 use replica_api::node::OpenNode;
@@ -31,6 +32,8 @@ use run_ends::line_rules::{
 use script_text::asks::NamedLine;
 use std::alloc::{AllocError, Global};
 use std::marker::Brand;
+use std::sync::Wait;
+use std::thread::Threads;
 use turn_scopes::terms::Terms;
 
 /// What a run worked on, and what it told, if memory sufficed.
@@ -42,12 +45,22 @@ pub struct Ran<L: Loglet, R: Register, S: Replica, C: Chooser> {
 }
 
 /// Runs a script's lines by the rules that were picked.
-fn run_by<L: Loglet, R: Register, K: Terms, S: Replica, C: Chooser>(
+fn run_by<
+    L: Loglet + Send,
+    R: Register + Send,
+    K: Terms + Send,
+    W: Threads + Wait + Sync,
+    S: Replica + Send,
+    C: Chooser + Send,
+    G: Gate + Sync,
+>(
+    rt: &W,
     alloc: Global,
     cells: Vec<L>,
     register: R,
     nodes: Vec<OpenNode<S, C>>,
     lines: &[NamedLine],
+    gate: &G,
 ) -> Ran<L, R, S, C>
     requires run { MayRun K.law }
     requires may { (who : ℕ) (e : Entry) → K.law.may who e → may_of lines.now who e }
@@ -61,7 +74,7 @@ fn run_by<L: Loglet, R: Register, K: Terms, S: Replica, C: Chooser>(
     requires sound { All (λ l. IsSound (L.view l)) cells.items }
     requires register { view.IsFresh (R.view register) }
     requires eight { length nodes.items ≤ 8 }
-    requires nodes { (j : ℕ) (n : OpenNode S C) → slice_get nodes.items j ≡ Some n → IsFreshReplica S.state S.spells (j + 1) (S.shows n.replica) }
+    requires nodes { (j : ℕ) (n : OpenNode S C) → slice_get nodes.items j ≡ Some n → IsFreshReplica S.meaning (j + 1) (S.shows n.replica) }
     requires lines { (home : ℕ → ℕ) × AreLines lines.now home (length nodes.items) }
     ensures told { IfOk result.told (RunTold lines.now (record { cells = map L.view result.cells.items; register = R.view result.register; disks = map (λ n. (S.shows n.replica).faults) result.nodes.items })) }
     ensures size { length result.nodes.items ≡ length nodes.items }
@@ -71,7 +84,7 @@ fn run_by<L: Loglet, R: Register, K: Terms, S: Replica, C: Chooser>(
     let mut nodes = nodes;
     match make_crew::<L, R, K, S, C>(alloc, cells, register, &mut nodes, lines) {
         Ok(crew) => {
-            let Ended { crew, told } = tell(alloc, crew, lines);
+            let Ended { crew, told } = tell(rt, alloc, crew, lines, gate);
             let Parts { cells, register } = part_crew(crew, &mut nodes);
             return Ran {
                 cells,
@@ -101,25 +114,34 @@ fn know_all<L: Loglet>(cells: &[L])
     }
 }
 
-/// Runs a script's lines: phase by phase, in each the nodes in order, each with its lines in order; then the nodes close, and the
-/// answers are told. The loglets, the register and the nodes' parts come back, whatever comes of it; nothing is told where
+/// Runs a script's lines: phase by phase, in each the nodes side by side in threads, each with its lines in order; then the nodes close,
+/// and the answers are told. The loglets, the register and the nodes' parts come back, whatever comes of it; nothing is told where
 /// memory was wanting.
 ///
-/// Cost: that of the lines, and for each node what it has to play of the log. Nothing that is kept of a line is looked at again
-/// before the end.
-pub fn run_lines<L: Loglet, R: Register, S: Replica, C: Chooser>(
+/// Cost: that of the lines, and for each node what it has to play of the log, of the nodes side by side; and a thread for each node in
+/// each phase. Nothing that is kept of a line is looked at again before the end.
+pub fn run_lines<
+    L: Loglet + Send,
+    R: Register + Send,
+    W: Threads + Wait + Sync,
+    S: Replica + Send,
+    C: Chooser + Send,
+    G: Gate + Sync,
+>(
+    rt: &W,
     alloc: Global,
     cells: Vec<L>,
     register: R,
     nodes: Vec<OpenNode<S, C>>,
     lines: &[NamedLine],
+    gate: &G,
 ) -> Ran<L, R, S, C>
     requires least { 0 < length cells.items }
     requires most { length cells.items ≤ 64 }
     requires fresh { All (λ l. IsFresh (L.view l)) cells.items }
     requires register { view.IsFresh (R.view register) }
     requires eight { length nodes.items ≤ 8 }
-    requires nodes { (j : ℕ) (n : OpenNode S C) → slice_get nodes.items j ≡ Some n → IsFreshReplica S.state S.spells (j + 1) (S.shows n.replica) }
+    requires nodes { (j : ℕ) (n : OpenNode S C) → slice_get nodes.items j ≡ Some n → IsFreshReplica S.meaning (j + 1) (S.shows n.replica) }
     requires lines { (home : ℕ → ℕ) × AreLines lines.now home (length nodes.items) }
     requires spelled { AllByRecursion (λ l. CanLog l.asks) lines.now }
 
@@ -137,5 +159,5 @@ pub fn run_lines<L: Loglet, R: Register, S: Replica, C: Chooser>(
     trims_are_sent();
     a_session_is_of_one_node();
     know_all(cells.as_slice());
-    run_by::<L, R, Brand, S, C>(alloc, cells, register, nodes, lines)
+    run_by::<L, R, Brand, W, S, C, G>(rt, alloc, cells, register, nodes, lines, gate)
 }

@@ -1,5 +1,5 @@
 //! The lines of a run are played, its nodes close, and its rows are told.
-ghost use Rattle.std.specs.Prelude.{◌≡◌, ◌≤◌, ℕ, List, length, map, IfOk};
+ghost use Rattle.std.specs.Prelude.{◌≡◌, ◌≤◌, ℕ, List, [], length, map, IfOk};
 ghost use Rattle.delos_types.specs.declared.entry.Entry.{Entry};
 ghost use Rattle.turn_scopes.specs.Floors.{FloorIs};
 ghost use Rattle.node_lines.specs.Workers.{MayRun};
@@ -16,9 +16,11 @@ use crate::laws::{
 use crew_rows::rows::rows_of;
 use fate_words::chooser::Chooser;
 use fitting_run::told::Told;
+use gate_points::Gate;
 use last_chain::last::{Last, read_last};
 use loglet_api::loglet::Loglet;
-use node_crew::crew::{Crew, Played, play_phases};
+use node_crew::crew::Crew;
+use node_threads::phases::{Played, play_phases};
 use register_api::Register;
 use replica_api::replica::Replica;
 use run_closing::close::{Closed, close};
@@ -28,6 +30,8 @@ use run_ends::ends::{
 use run_laws::laws::{a_calm_run_answers_all, what_ended_fits};
 use script_text::asks::NamedLine;
 use std::alloc::{AllocError, Global};
+use std::sync::Wait;
+use std::thread::Threads;
 use turn_scopes::terms::{By, Terms};
 
 /// The user that reads the chain as a run closes, which is no node.
@@ -49,11 +53,11 @@ fn tell_closed<L: Loglet, R: Register, K: Terms, S: Replica, C: Chooser>(
     requires run { MayRun K.law }
     requires may { (who : ℕ) (e : Entry) → K.law.may who e → may_of lines.now who e }
     requires floor { FloorIs K.law.floor (length crew.workers.items) }
-    requires closed { (log : List Entry) × (length log ≡ end) × HasClosed K.law S.state S.spells lines.now crew.fabric.journal crew.looks.items log (map (λ w. record { seat = w.seat; desks = w.desks.items }) crew.workers.items) }
+    requires closed { (log : List Entry) × (length log ≡ end) × HasClosed K.law S.meaning lines.now crew.fabric.journal crew.looks.items log (map (λ w. record { seat = w.seat; desks = w.desks.items }) crew.workers.items) }
     requires sees { SeesAll crew.fabric.journal (λ (w : WorkerEnd). w.seat) (map (λ w. record { seat = w.seat; desks = w.desks.items }) crew.workers.items) end }
-    requires stands { CrewStands K.law S.state S.spells crew.fabric.journal (λ w. w.seat) crew.workers.items }
+    requires stands { CrewStands K.law S.meaning crew.fabric.journal (λ w. w.seat) crew.workers.items }
     ensures told { IfOk result.told (FitsGivenBack K.law lines.now result.crew.fabric.journal (map (λ w. record { seat = w.seat; desks = w.desks.items }) result.crew.workers.items)) }
-    ensures stands { CrewStands K.law S.state S.spells result.crew.fabric.journal (λ w. w.seat) result.crew.workers.items }
+    ensures stands { CrewStands K.law S.meaning result.crew.fabric.journal (λ w. w.seat) result.crew.workers.items }
     ensures size { length result.crew.workers.items ≡ length crew.workers.items }
 {
     what_closed_can_be_told::<By<K>, S>();
@@ -100,24 +104,35 @@ fn tell_closed<L: Loglet, R: Register, K: Terms, S: Replica, C: Chooser>(
     }
 }
 
-/// Plays all lines, closes the nodes, and tells the rows and the chain.
-pub fn tell<L: Loglet, R: Register, K: Terms, S: Replica, C: Chooser>(
+/// Plays all lines, the nodes in threads, closes the nodes, and tells the rows and the chain.
+pub fn tell<
+    L: Loglet + Send,
+    R: Register + Send,
+    K: Terms + Send,
+    W: Threads + Wait + Sync,
+    S: Replica + Send,
+    C: Chooser + Send,
+    G: Gate + Sync,
+>(
+    rt: &W,
     alloc: Global,
     crew: Crew<L, R, K, S, C>,
     lines: &[NamedLine],
+    gate: &G,
 ) -> Ended<L, R, K, S, C>
     requires run { MayRun K.law }
     requires may { (who : ℕ) (e : Entry) → K.law.may who e → may_of lines.now who e }
     requires floor { FloorIs K.law.floor (length crew.workers.items) }
     requires sends { MaySendAll K.law.may lines.now }
     requires eight { length crew.workers.items ≤ 8 }
-    requires fresh { CrewRests K.law S.state S.spells lines.now 0 0 crew.fabric.journal crew.looks.items (λ w. w.seat) (λ w. w.desks.items) crew.workers.items }
-    requires stands { CrewStands K.law S.state S.spells crew.fabric.journal (λ w. w.seat) crew.workers.items }
+    requires none { crew.fabric.journal ≡ [] }
+    requires fresh { CrewRests K.law S.meaning lines.now 0 0 crew.fabric.journal crew.looks.items (λ w. w.seat) (λ w. w.desks.items) crew.workers.items }
+    requires stands { CrewStands K.law S.meaning crew.fabric.journal (λ w. w.seat) crew.workers.items }
     ensures told { IfOk result.told (FitsGivenBack K.law lines.now result.crew.fabric.journal (map (λ w. record { seat = w.seat; desks = w.desks.items }) result.crew.workers.items)) }
-    ensures stands { CrewStands K.law S.state S.spells result.crew.fabric.journal (λ w. w.seat) result.crew.workers.items }
+    ensures stands { CrewStands K.law S.meaning result.crew.fabric.journal (λ w. w.seat) result.crew.workers.items }
     ensures size { length result.crew.workers.items ≡ length crew.workers.items }
 {
-    let Played { crew, answer } = play_phases(alloc, crew, lines);
+    let Played { crew, answer } = play_phases(rt, alloc, crew, lines, gate);
     match answer {
         Ok(()) => {}
         Err(fault) => {

@@ -4,6 +4,7 @@
 
 mod notes;
 
+use gate_points::NoGate;
 use memory_runs::run::run_in_memory;
 use outside_ends::standard::{StdSink, StdSource};
 use script_runner::ended::Status;
@@ -11,6 +12,8 @@ use shelf_loglets::shelf::Rooms;
 use std::alloc::AllocError;
 use std::env;
 use std::process::ExitCode;
+use std::sync::Wait;
+use std::thread::Threads;
 
 /// How many entries a loglet of the shelf takes: 2^32, and each native loglet of a striped one 2^28.
 const ROOMS: Rooms = Rooms {
@@ -33,14 +36,25 @@ fn words_of(rt: &HostRuntime) -> Result<Vec<String>, AllocError> {
     Ok(words)
 }
 
-/// Runs the script over the loglets and the nodes that the words name, on which nothing was begun. What standard error or a file
-/// can't take of the notes is let go: the status is the run's.
-fn run_script(rt: &HostRuntime) -> Result<Status, AllocError> {
+/// Runs the script over the loglets and the nodes that the words name, on which nothing was begun, each node in a thread. What standard
+/// error or a file can't take of the notes is let go: the status is the run's.
+fn run_script<W: Threads + Wait + Sync>(
+    rt: &HostRuntime,
+    threads: &W,
+) -> Result<Status, AllocError> {
     let alloc = rt.alloc();
     let words = words_of(rt)?;
     let mut source = StdSource::new(rt.stdin());
     let mut sink = StdSink::new(rt.stdout());
-    let ended = run_in_memory(rt, alloc, words.as_slice(), ROOMS, &mut source, &mut sink)?;
+    let ended = run_in_memory(
+        threads,
+        alloc,
+        words.as_slice(),
+        ROOMS,
+        &mut source,
+        &mut sink,
+        &NoGate,
+    )?;
     let end = ended.end;
     let _ = notes::explain(rt, &end);
     if let Some(told) = &end.told {
@@ -50,7 +64,7 @@ fn run_script(rt: &HostRuntime) -> Result<Status, AllocError> {
 }
 
 fn main(rt: HostRuntime) -> ExitCode {
-    let status = match run_script(&rt) {
+    let status = match run_script(&rt, &rt) {
         Ok(status) => status,
         Err(AllocError) => {
             let _ = notes::no_memory(&rt);

@@ -24,7 +24,7 @@ then-assoc Less b c = refl
 then-assoc Equal b c = refl
 then-assoc Greater b c = refl
 
-order-turn : (a b : Act) → act_order a b ≡ turn_cmp (turn_of a) (turn_of b)
+pub order-turn : (a b : Act) → act_order a b ≡ turn_cmp (turn_of a) (turn_of b)
 order-turn a b =
     then-assoc (nat_cmp a.place.pos b.place.pos) (nat_cmp a.place.sub b.place.sub) (ordering_then (nat_cmp a.rank b.rank) (nat_cmp a.session b.session))
 

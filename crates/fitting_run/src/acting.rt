@@ -22,12 +22,12 @@ use std::collections::BTreeMap;
 use table_core::command::{Found, Pair};
 use table_core::table::Table;
 
-// Where what acted stands among the rest: by its place, and at one place by rank.
+/// Where what acted stands among the rest: by its place, and at one place by rank.
 #[derive(Clone, Copy, PartialEq, Eq, PartialOrd, Ord)]
-struct Turn {
-    place: Place,
-    rank: Rank,
-    session: SessionId,
+pub struct Turn {
+    pub place: Place,
+    pub rank: Rank,
+    pub session: SessionId,
 }
 
 // What a placed row says acted.

@@ -72,9 +72,7 @@ impl<E: Layers, D: Disk> LocalReplica<E, D> {
 impl<E: Layers, D: Disk> Replica for LocalReplica<E, D> {
     ghost shows = { λ r. shown r.store r.origin (E.waiting r.engines) r.told };
 
-    ghost spells = { Spells };
-
-    ghost state = { IsStateOf };
+    ghost meaning = { record { state = IsStateOf; spells = Spells } };
 
     ghost state_is = { λ log m h. h };
 

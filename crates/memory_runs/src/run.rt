@@ -15,6 +15,7 @@ use batch_engine::BatchEngine;
 use disk_model::{Disk, MemDisk};
 use engine_steps::engine::Engine;
 use fate_words::chooser::Calm;
+use gate_points::Gate;
 use local_replica::layers::Layers;
 use loglet_api::loglet::Loglet;
 use meta_register::MetaRegister;
@@ -29,6 +30,8 @@ use script_words::shelf::Kind;
 use session_engine::SessionEngine;
 use shelf_loglets::shelf::{Rooms, ShelfLoglet, loglet_of};
 use std::alloc::{AllocError, Global};
+use std::sync::Wait;
+use std::thread::Threads;
 use table_engine::TableEngine;
 use trim_engine::TrimEngine;
 use view_engine::ViewEngine;
@@ -154,14 +157,23 @@ fn take_disks<E: Layers, D: Disk>(nodes: Vec<NodeParts<E, D, Calm>>, disks: &mut
 }
 
 /// Runs the plan over these loglets and nodes, and a register on a disk in memory.
-fn run_with<H, L: Loglet, E: Layers, D: Disk, S: Source, K: Sink>(
-    rt: &H,
+fn run_with<
+    W: Threads + Wait + Sync,
+    L: Loglet + Send,
+    E: Layers + Send,
+    D: Disk + Send,
+    S: Source,
+    K: Sink,
+    G: Gate + Sync,
+>(
+    rt: &W,
     alloc: Global,
     plan: &Option<Plan>,
     shelf: Vec<L>,
     nodes: Vec<NodeParts<E, D, Calm>>,
     source: &mut S,
     sink: &mut K,
+    gate: &G,
 ) -> Result<EndedOver<L, D>, AllocError>
     requires shelf { AreFresh (map L.view shelf.items) }
     requires nodes { AreFreshNodes (λ k. E.kinds k.engines) (λ k. E.waiting k.engines) (λ k. D.view k.disk) nodes.items }
@@ -181,7 +193,7 @@ fn run_with<H, L: Loglet, E: Layers, D: Disk, S: Source, K: Sink>(
         register,
         nodes,
     };
-    let Ended { end, yard } = run_plan(rt, alloc, plan, source, sink, yard);
+    let Ended { end, yard } = run_plan(rt, alloc, plan, source, sink, yard, gate);
     let Yard {
         shelf,
         register,
@@ -197,14 +209,22 @@ fn run_with<H, L: Loglet, E: Layers, D: Disk, S: Source, K: Sink>(
 }
 
 /// Runs the plan over these loglets, and over nodes on these disks, each with the five engines.
-fn run_plan_over<H, L: Loglet, D: Disk, S: Source, K: Sink>(
-    rt: &H,
+fn run_plan_over<
+    W: Threads + Wait + Sync,
+    L: Loglet + Send,
+    D: Disk + Send,
+    S: Source,
+    K: Sink,
+    G: Gate + Sync,
+>(
+    rt: &W,
     alloc: Global,
     plan: &Option<Plan>,
     shelf: Vec<L>,
     disks: Vec<D>,
     source: &mut S,
     sink: &mut K,
+    gate: &G,
 ) -> Result<EndedOver<L, D>, AllocError>
     requires shelf { AreFresh (map L.view shelf.items) }
     requires sound { (p : plans.Plan) → plan.now ≡ Some p → IsPlan p }
@@ -230,20 +250,29 @@ fn run_plan_over<H, L: Loglet, D: Disk, S: Source, K: Sink>(
         engines.push(Box::new(alloc, TableEngine {})?)?;
         add_node(&mut nodes, engines, disk)?;
     }
-    run_with(rt, alloc, plan, shelf, nodes, source, sink)
+    run_with(rt, alloc, plan, shelf, nodes, source, sink, gate)
 }
 
 /// Runs the script over these loglets, which may be of any kind, and over these nodes, whose engines and disks are the caller's.
 /// There is one loglet for each kind that the words name, and as many nodes as they say. What the run was made over comes back, but the
 /// engines. An error is want of memory before anything was read or put.
-pub fn run_over<H, L: Loglet, E: Layers, D: Disk, S: Source, K: Sink>(
-    rt: &H,
+pub fn run_over<
+    W: Threads + Wait + Sync,
+    L: Loglet + Send,
+    E: Layers + Send,
+    D: Disk + Send,
+    S: Source,
+    K: Sink,
+    G: Gate + Sync,
+>(
+    rt: &W,
     alloc: Global,
     words: &[String],
     shelf: Vec<L>,
     nodes: Vec<NodeParts<E, D, Calm>>,
     source: &mut S,
     sink: &mut K,
+    gate: &G,
 ) -> Result<EndedOver<L, D>, AllocError>
     requires shelf { AreFresh (map L.view shelf.items) }
     requires nodes { AreFreshNodes (λ k. E.kinds k.engines) (λ k. E.waiting k.engines) (λ k. D.view k.disk) nodes.items }
@@ -256,19 +285,20 @@ pub fn run_over<H, L: Loglet, E: Layers, D: Disk, S: Source, K: Sink>(
     ensures nothing { IfErr result (λ _. (sink.new ≡ sink.old) × (source.new ≡ source.old)) }
 {
     let plan = plan_in(alloc, words)?;
-    run_with(rt, alloc, &plan, shelf, nodes, source, sink)
+    run_with(rt, alloc, &plan, shelf, nodes, source, sink, gate)
 }
 
 /// Runs the script over as many loglets as the words say, of their kinds and with these rooms, on disks in memory, where no
 /// message is lost and no disk fails, and over nodes on these disks, of which there is one for each. What the run was made over comes back.
-pub fn run_on<H, D: Disk, S: Source, K: Sink>(
-    rt: &H,
+pub fn run_on<W: Threads + Wait + Sync, D: Disk + Send, S: Source, K: Sink, G: Gate + Sync>(
+    rt: &W,
     alloc: Global,
     words: &[String],
     rooms: Rooms,
     disks: Vec<D>,
     source: &mut S,
     sink: &mut K,
+    gate: &G,
 ) -> Result<EndedOver<ShelfLoglet, D>, AllocError>
     requires rooms { AreRooms rooms }
     requires as_many { (plan : plans.Plan) → plan_of (map string_bytes words.now) ≡ Some plan → length disks.items ≡ plan.nodes }
@@ -281,17 +311,18 @@ pub fn run_on<H, D: Disk, S: Source, K: Sink>(
 {
     let plan = plan_in(alloc, words)?;
     let shelf = shelf_for(alloc, &plan, rooms)?;
-    run_plan_over(rt, alloc, &plan, shelf, disks, source, sink)
+    run_plan_over(rt, alloc, &plan, shelf, disks, source, sink, gate)
 }
 
 /// Runs the script over as many loglets and nodes as the words say, all on disks in memory. What the run was made over comes back.
-pub fn run_in_memory<H, S: Source, K: Sink>(
-    rt: &H,
+pub fn run_in_memory<W: Threads + Wait + Sync, S: Source, K: Sink, G: Gate + Sync>(
+    rt: &W,
     alloc: Global,
     words: &[String],
     rooms: Rooms,
     source: &mut S,
     sink: &mut K,
+    gate: &G,
 ) -> Result<EndedOver<ShelfLoglet, MemDisk>, AllocError>
     requires { AreRooms rooms }
     ensures ended { IfOk result (λ ended. HasEnded S.left S.counted K.held K.counted (plan_of (map string_bytes words.now)) source.old source.new sink.old sink.new (shown view_of (λ r. r.register) (λ d. d.faults) ended.shelf.items ended.register ended.disks.items) ended.end) }
@@ -303,5 +334,5 @@ pub fn run_in_memory<H, S: Source, K: Sink>(
     let plan = plan_in(alloc, words)?;
     let shelf = shelf_for(alloc, &plan, rooms)?;
     let disks = disks_for(alloc, &plan)?;
-    run_plan_over(rt, alloc, &plan, shelf, disks, source, sink)
+    run_plan_over(rt, alloc, &plan, shelf, disks, source, sink, gate)
 }

@@ -25,7 +25,7 @@ use Rattle.node_course.specs.Moments.{NodeCourse, GoesOn, moment, at_node}
 use Rattle.node_course.specs.Played.{Came, went_further}
 use Rattle.node_course.specs.Course.{CourseOk}
 use Rattle.node_course.specs.Replacing.{Replaced}
-use Rattle.node_course.specs.Telling.{AreTold, HasToldSo, IsTrim, KeepsBehind}
+use Rattle.node_course.specs.Telling.{AreTold, HasToldSo, IsTrim, AsksBehind}
 use Rattle.node_course.proofs.Events.{faults_on}
 use Rattle.node_course.specs.Behind.{ReportsHold}
 use Rattle.node_course.proofs.Held.{hold_on}
@@ -108,7 +108,7 @@ module _ (law : Law) (lines : List NamedLine) (nodes n : ℕ) (c : NodeCourse) (
           → ((i : ℕ) (l : NamedLine) (look : Looked) → Came lines looks' n i l look → l.phase ≤ c.phase)
           → Replaced lines looks' n c' (length law.shelf)
           → (faults_of n c'.seen ≡ [] → own_seals n c'.seen ≤ went_further n lines looks')
-          → AreTold lines looks' n c'.seen → KeepsBehind n c'.seen
+          → AreTold lines looks' n c'.seen → AsksBehind n c'.seen
           → ((i : ℕ) (l : NamedLine) (look : Looked) → Came lines looks' n i l look → HasToldSo (moment c' (l.phase + 1)) n look)
           → ((j : ℕ) (l : NamedLine) (trim : ℕ) → Came lines looks' n j l (looked.Trimmed trim) → IsTrim lines looks' nodes n c' j l trim)
           → ReportsHold lines looks' n c'
@@ -135,7 +135,7 @@ module _ (law : Law) (lines : List NamedLine) (nodes n : ℕ) (c : NodeCourse) (
       pub advance_back : CameBack lines looks looks' n → went_further n lines looks' ≡ went_further n lines looks → length looks' ≡ length looks
           → ((kind : Cause → Bool) → kind cause.Store ≡ false → failed_looks (at_node n kind) lines looks' + count_by (λ f. kind f.cause) c'.faults ≤ count_by kind (faults_of n c'.seen))
           → (faults_of n c'.seen ≡ [] → own_seals n c'.seen ≤ went_further n lines looks')
-          → AreTold lines looks' n c'.seen → KeepsBehind n c'.seen → CourseOk law lines nodes n c' looks'
+          → AreTold lines looks' n c'.seen → AsksBehind n c'.seen → CourseOk law lines nodes n c' looks'
       advance_back back same size events seals told behind = advance size events (λ i l look come. ok.ahead i l look (back i l look come))
           (replaced_on law c c' grown lines looks n ok.ahead ok.replaced looks' back same)
           seals told behind

@@ -5,10 +5,8 @@ use Rattle.std.proofs.lemmas.Bool.{and_parts, and_from, lt-ltb}
 use Rattle.std.proofs.lemmas.Option.{slice_get_within}
 use Rattle.std.proofs.lemmas.List.Sums.{count_by-le-length, sum_by-cons}
 use Rattle.std.proofs.lemmas.List.{length-take-le}
-use Rattle.delos_types.specs.Spaces.{SpaceMap}
-use Rattle.delos_types.specs.declared.entry.Entry.{Entry}
 use Rattle.legal_journal.specs.Law.{Law}
-use Rattle.replica_api.specs.Replica.{Saved}
+use Rattle.replica_api.specs.Replica.{Meaning}
 use Rattle.script_text.specs.declared.asks.NamedLine.{NamedLine}
 use Rattle.script_text.specs.declared.asks.Asks.{Asks}
 use Rattle.script_text.specs.declared.asks.Asks.TheVariants as asks
@@ -48,9 +46,9 @@ asked_early lines n s from phase b = go lines from b.before
         let here = one l (λ yes'. and_from (logs_for s l) (nat_lt l.phase phase) (and_parts (l.node == n) (logs_for s l) yes').1 (lt-ltb l.phase phase (h zero l refl (omega arith)))) in
         omega (arith, rest, here, sum_by-cons (λ (m : NamedLine). cond (logs_at n s m) 1 0) l (take k ls), sum_by-cons (λ (m : NamedLine). cond (logs_for s m && nat_lt m.phase phase) 1 0) l ls)
 
-module _ (law : Law) (state : List Entry → SpaceMap → Type 0) (spells : List ℕ → Saved → Type 0) (lines : List NamedLine) (home : ℕ → ℕ) (nodes : ℕ) (c : NodeCourse) (looks : List (Option Looked)) where
+module _ (law : Law) (meaning : Meaning) (lines : List NamedLine) (home : ℕ → ℕ) (nodes : ℕ) (c : NodeCourse) (looks : List (Option Looked)) where
   pub line_next : (n from i done : ℕ) (line : NamedLine) (seat : SeatView) (desks : List Desk) → AreLines lines home nodes → slice_get lines i ≡ Some line → line.node ≡ n
-      → NodeAt law state spells lines home nodes c looks n from i done seat desks → IsNext desks line.asks
+      → NodeAt law meaning lines home nodes c looks n from i done seat desks → IsNext desks line.asks
   line_next n from i done line seat desks are at own w = by line.asks refl
     where
       by : (a : Asks) → line.asks ≡ a → IsNext desks a

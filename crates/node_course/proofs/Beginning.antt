@@ -2,10 +2,9 @@
 use Rattle.std.proofs.Common.{◌≡◌, refl, sym, ap, ◌∙◌, subst, inl, ◌⊎◌, inr, ℕ, ◌+◌, ◌<◌, ◌≤◌, List, [], ◌∷◌, Option, Contains, arith, length-append}
 use Rattle.std.specs.List.{AllByRecursion}
 use Rattle.std.proofs.lemmas.Bool.{cases_lt}
-use Rattle.delos_types.specs.Spaces.{SpaceMap}
 use Rattle.delos_types.specs.declared.entry.Entry.{Entry}
 use Rattle.legal_journal.specs.Law.{Law}
-use Rattle.replica_api.specs.Replica.{Saved}
+use Rattle.replica_api.specs.Replica.{Meaning}
 use Rattle.base_engine.specs.declared.outbox.Given.{Given}
 use Rattle.script_text.specs.declared.asks.NamedLine.{NamedLine}
 use Rattle.turn_scopes.specs.Seats.{SeatView}
@@ -29,7 +28,7 @@ use Rattle.node_course.proofs.Growing.{Grown, desk_same, ended_grows, grown_next
 use Rattle.node_course.proofs.Replacing.{replaced_on}
 use Rattle.node_course.proofs.Told.{stand_then, trim_on}
 
-module _ (law : Law) (state : List Entry → SpaceMap → Type 0) (spells : List ℕ → Saved → Type 0) (lines : List NamedLine) (home : ℕ → ℕ) (nodes : ℕ) (c : NodeCourse) (looks : List (Option Looked)) (n from : ℕ) (seat : SeatView) (desks : List Desk) (begins : BeginsAt lines from (c.phase + 1)) (r : Rests law state spells lines home nodes c looks n from (c.phase + 1) seat desks) where
+module _ (law : Law) (meaning : Meaning) (lines : List NamedLine) (home : ℕ → ℕ) (nodes : ℕ) (c : NodeCourse) (looks : List (Option Looked)) (n from : ℕ) (seat : SeatView) (desks : List Desk) (begins : BeginsAt lines from (c.phase + 1)) (r : Rests law meaning lines home nodes c looks n from (c.phase + 1) seat desks) where
   abbrev then' : NodeCourse
   then' = next_phase c
 
@@ -50,7 +49,7 @@ module _ (law : Law) (state : List Entry → SpaceMap → Type 0) (spells : List
 
   now : (s q : ℕ) (e : Entry) → Contains (appended_by n c.seen) e → HasRank s q e → q ≤ asked_before lines s (c.phase + 1)
   now s q e there has =
-      let within = own_may (record law { may = OwnWithin n law.may (sent_by desks) }) c.seen n e (worker_within law state spells n c.seen seat desks r.node.ok) there in
+      let within = own_may (record law { may = OwnWithin n law.may (sent_by desks) }) c.seen n e (worker_within law meaning n c.seen seat desks r.node.ok) there in
       let low = within.1 refl s q has in
       let asked = sent_asked s in
       omega (arith, low, asked)
@@ -87,7 +86,7 @@ module _ (law : Law) (state : List Entry → SpaceMap → Type 0) (spells : List
   }
 
   -- Between two phases nothing is halted, and nothing was given.
-  pub rests_then : Rests law state spells lines home nodes then' looks n from (c.phase + 1) seat desks
+  pub rests_then : Rests law meaning lines home nodes then' looks n from (c.phase + 1) seat desks
   rests_then = record {
     node = record {
       ok = r.node.ok;

@@ -4,8 +4,6 @@ use Rattle.std.specs.List.{AllByRecursion}
 use Rattle.std.specs.Option.{option_or}
 use Rattle.std.proofs.lemmas.Bool.{cases_lt}
 use Rattle.std.proofs.lemmas.Bool.Decides.{nat_tests}
-use Rattle.delos_types.specs.Spaces.{SpaceMap}
-use Rattle.delos_types.specs.declared.entry.Entry.{Entry}
 use Rattle.delos_types.specs.declared.cause.Cause.{Cause}
 use Rattle.delos_types.specs.declared.cause.Cause.TheVariants as cause
 use Rattle.legal_journal.specs.Law.{Law}
@@ -16,7 +14,7 @@ use Rattle.virtual_log.specs.Holding.{Holds}
 use Rattle.engine_api.specs.Acted.{asked_in}
 use Rattle.engine_api.specs.Order.{gap_from}
 use Rattle.virtual_log.specs.Sealing.{SealsNone}
-use Rattle.replica_api.specs.Replica.{Saved, saved_in}
+use Rattle.replica_api.specs.Replica.{Meaning, saved_in}
 use Rattle.base_engine.specs.declared.outbox.Given.{Given}
 use Rattle.base_engine.specs.Following.{IsStateAt}
 use Rattle.base_engine.specs.Node.{NodeView}
@@ -114,7 +112,7 @@ became mid failed d d' h = ⊎_elim
 none_some : {A : Type 0} (a : A) → None ≡ Some a → ⊥
 none_some a e = cc
 
-module _ (law : Law) (state : List Entry → SpaceMap → Type 0) (spells : List ℕ → Saved → Type 0) (run : MayRun law) (lines : List NamedLine) (home : ℕ → ℕ) (nodes : ℕ) (c : NodeCourse) (looks : List (Option Looked)) (n from to : ℕ) (failed : Option Cause) (seat seat' : SeatView) (desks desks' : List Desk) (journal : List Event) (are : AreLines lines home nodes) (over : BeginsAt lines to (c.phase + 1)) (before : NodeAt law state spells lines home nodes c looks n from to c.phase seat desks) (still : SealsNone n c.seen journal) (adds : OwnAdds n IsOfSessions c.seen journal) (does : EndsTurn (record law { may = OwnWithin n law.may (sent_by desks) }) (node_of seat c.seen) (node_of seat' journal) desks desks' failed) (now : WorkerOk law state spells n journal seat' desks') where
+module _ (law : Law) (meaning : Meaning) (run : MayRun law) (lines : List NamedLine) (home : ℕ → ℕ) (nodes : ℕ) (c : NodeCourse) (looks : List (Option Looked)) (n from to : ℕ) (failed : Option Cause) (seat seat' : SeatView) (desks desks' : List Desk) (journal : List Event) (are : AreLines lines home nodes) (over : BeginsAt lines to (c.phase + 1)) (before : NodeAt law meaning lines home nodes c looks n from to c.phase seat desks) (still : SealsNone n c.seen journal) (adds : OwnAdds n IsOfSessions c.seen journal) (does : EndsTurn (record law { may = OwnWithin n law.may (sent_by desks) }) (node_of seat c.seen) (node_of seat' journal) desks desks' failed) (now : WorkerOk law meaning n journal seat' desks') where
   abbrev came : List Cause
   came = causes_of does.ends.moves.goes.given (failure_in failed)
 
@@ -149,7 +147,7 @@ module _ (law : Law) (state : List Entry → SpaceMap → Type 0) (spells : List
   within_then = subst (IsLegal (record law { may = OwnWithin n law.may (sent_by desks) })) seen_is does.ends.moves.goes.keeps.later.legal
 
   legal : IsLegal law journal
-  legal = worker_legal law state spells n journal seat' desks' now
+  legal = worker_legal law meaning n journal seat' desks' now
 
   tells : TellsOn lines looks n seat.node.replica.cursor seat'.node.replica.cursor c.seen journal
   tells = tells_still law run lines looks n c.seen journal does.ends.moves.goes.spends.more seen_more legal seat.node.replica.cursor seat'.node.replica.cursor forward before.did.told adds
@@ -181,7 +179,7 @@ module _ (law : Law) (state : List Entry → SpaceMap → Type 0) (spells : List
   -- What has acted
 
   -- the front of the log that the node has applied
-  front : IsStateAt Holds state journal (saved_in seat'.node.replica)
+  front : IsStateAt Holds meaning.state journal (saved_in seat'.node.replica)
   front = now.ok.node.follows.now
 
   gap_is : (s : ℕ) (d d' : Desk) → slice_get desks s ≡ Some d → 0 < d.asked → ClosesIt does.mid failed d d' → gap_from (asked_in 0 front.log) s 1 ≡ length d'.answers.items + 1
@@ -422,7 +420,7 @@ module _ (law : Law) (state : List Entry → SpaceMap → Type 0) (spells : List
       by (asks.Admin a) is so =
           subst (PlayedSo lines then' (c.phase + 1) seat'.node.replica.cursor n desks' looks i l.phase) (sym is) (subst (PlayedSo lines then' c.phase seat'.node.replica.cursor n desks' looks i l.phase) is so)
 
-  node_then : NodeAt law state spells lines home nodes then' looks n to to (c.phase + 1) seat' desks'
+  node_then : NodeAt law meaning lines home nodes then' looks n to to (c.phase + 1) seat' desks'
   node_then = record {
     ok = now;
     did = did;
@@ -439,7 +437,7 @@ module _ (law : Law) (state : List Entry → SpaceMap → Type 0) (spells : List
         (let rose = does.ends.moves.goes.spends.disk in omega (arith, rose, faults_are)) before.stores;
   }
 
-  pub phase_ended : HasRested law state spells lines home nodes c looks n to (c.phase + 1) journal seat' desks'
+  pub phase_ended : HasRested law meaning lines home nodes c looks n to (c.phase + 1) journal seat' desks'
   phase_ended = record {
     course = then';
     seen_is = refl;

@@ -1,7 +1,5 @@
 -- A line had its node replace the last loglet of the log, or find that another had.
 use Rattle.std.proofs.Common.{◌≡◌, refl, sym, ap, ◌∙◌, subst, ℕ, ◌+◌, ◌≤◌, Bool, false, cond, not, List, [], ◌∷◌, ◌++◌, Option, Some, None, map, length, count_by, slice_get, slice_set, arith}
-use Rattle.delos_types.specs.Spaces.{SpaceMap}
-use Rattle.delos_types.specs.declared.entry.Entry.{Entry}
 use Rattle.delos_types.specs.declared.cause.Cause.{Cause}
 use Rattle.legal_journal.specs.Law.{Law}
 use Rattle.legal_journal.specs.declared.events.Event.{Event}
@@ -11,7 +9,7 @@ use Rattle.journal_laws.specs.Own.{faults_of}
 use Rattle.virtual_log.specs.declared.extend.Extension.{Extension}
 use Rattle.virtual_log.specs.declared.extend.Extension.TheVariants.{Extended, Moved, NoSpare}
 use Rattle.virtual_log.specs.Sealing.{SealsNone}
-use Rattle.replica_api.specs.Replica.{Saved}
+use Rattle.replica_api.specs.Replica.{Meaning}
 use Rattle.script_text.specs.declared.line.Admin.TheVariants.{Extend}
 use Rattle.script_text.specs.declared.asks.NamedLine.{NamedLine}
 use Rattle.script_text.specs.declared.asks.Asks.TheVariants as asks
@@ -43,7 +41,7 @@ use Rattle.node_course.proofs.Advance.{advanced, count-append, failed_of}
 use Rattle.node_course.proofs.Replacing.{LooksOn, further_set}
 use Rattle.node_course.proofs.Playing.{line_went, none_taken}
 
-module _ (law : Law) (state : List Entry → SpaceMap → Type 0) (spells : List ℕ → Saved → Type 0) (run : MayRun law) (lines : List NamedLine) (home : ℕ → ℕ) (nodes : ℕ) (c : NodeCourse) (looks : List (Option Looked)) (n from i : ℕ) (line : NamedLine) (look : Looked) (seat seat' : SeatView) (desks : List Desk) (journal : List Event) (are : AreLines lines home nodes) (at : slice_get lines i ≡ Some line) (node : line.node ≡ n) (phase : line.phase ≡ c.phase) (asks_is : line.asks ≡ asks.Admin Extend) (was : NodeAt law state spells lines home nodes c looks n from i c.phase seat desks) (adds : OwnAdds n IsOfSessions c.seen journal) (does : Extends (record law { may = OwnWithin n law.may (sent_by desks) }) (node_of seat c.seen) (node_of seat' journal) look) (now : WorkerOk law state spells n journal seat' desks) where
+module _ (law : Law) (meaning : Meaning) (run : MayRun law) (lines : List NamedLine) (home : ℕ → ℕ) (nodes : ℕ) (c : NodeCourse) (looks : List (Option Looked)) (n from i : ℕ) (line : NamedLine) (look : Looked) (seat seat' : SeatView) (desks : List Desk) (journal : List Event) (are : AreLines lines home nodes) (at : slice_get lines i ≡ Some line) (node : line.node ≡ n) (phase : line.phase ≡ c.phase) (asks_is : line.asks ≡ asks.Admin Extend) (was : NodeAt law meaning lines home nodes c looks n from i c.phase seat desks) (adds : OwnAdds n IsOfSessions c.seen journal) (does : Extends (record law { may = OwnWithin n law.may (sent_by desks) }) (node_of seat c.seen) (node_of seat' journal) look) (now : WorkerOk law meaning n journal seat' desks) where
   abbrev then' : NodeCourse
   then' = advanced c n (map (λ g. g.cause) does.moves.goes.given) journal c.when
 
@@ -108,7 +106,7 @@ module _ (law : Law) (state : List Entry → SpaceMap → Type 0) (spells : List
   not_yet = was.waiting i line (omega arith) at node
 
   legal : IsLegal law journal
-  legal = worker_legal law state spells n journal seat' desks now
+  legal = worker_legal law meaning n journal seat' desks now
 
   -- the node itself replaced it, with no Seal before
   who_is : does.settled.who ≡ n
@@ -174,8 +172,8 @@ module _ (law : Law) (state : List Entry → SpaceMap → Type 0) (spells : List
   line_played = subst (PlayedSo lines then' c.phase seat'.node.replica.cursor n desks looks' i line.phase) (sym asks_is)
       (look, set_same looks i (Some look) None not_yet, of_node look does.extends, none_reported look does.extends, none_left look does.extends)
 
-  pub line_extended : LineWent law state spells lines home nodes c looks' n from (i + 1) journal seat' desks
+  pub line_extended : LineWent law meaning lines home nodes c looks' n from (i + 1) journal seat' desks
   line_extended =
-      line_went law state spells lines home nodes c looks n from i line look seat seat' desks desks (none_taken desks) journal are at node phase unlogged was does.others does.moves
+      line_went law meaning lines home nodes c looks n from i line look seat seat' desks desks (none_taken desks) journal are at node phase unlogged was does.others does.moves
       (paid_is look does.extends) on own seals now tells (stood look does.extends) (λ trim is. absurd (subst So is does.extends))
       (λ position is. absurd (subst So is does.extends)) (λ after found is. absurd (subst So is does.extends)) line_played

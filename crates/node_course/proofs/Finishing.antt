@@ -1,13 +1,11 @@
 -- A node's last calls: it rests on, and its cursor doesn't fall.
 use Rattle.std.proofs.Common.{◌≡◌, refl, sym, ap, ◌∙◌, subst, ℕ, ◌+◌, ◌<◌, ◌≤◌, List, [], Option, Some, slice_get, arith}
 use Rattle.std.specs.List.{AllByRecursion}
-use Rattle.delos_types.specs.Spaces.{SpaceMap}
-use Rattle.delos_types.specs.declared.entry.Entry.{Entry}
 use Rattle.legal_journal.specs.Law.{Law}
 use Rattle.legal_journal.specs.declared.events.Event.{Event}
 use Rattle.legal_journal.specs.Journal.{IsLegal}
 use Rattle.virtual_log.specs.Sealing.{SealsNone}
-use Rattle.replica_api.specs.Replica.{Saved}
+use Rattle.replica_api.specs.Replica.{Meaning}
 use Rattle.base_engine.specs.declared.outbox.Given.{Given}
 use Rattle.base_engine.specs.Settling.{OutboxView}
 use Rattle.script_text.specs.declared.asks.NamedLine.{NamedLine}
@@ -28,12 +26,12 @@ use Rattle.node_course.proofs.Still.{did_still, tells_still}
 use Rattle.node_course.proofs.Advance.{advanced, advanced_on, stores_counted}
 use Rattle.node_course.proofs.Growing.{Grown, desk_same, ended_grows, grown_of, played_grows}
 
-module _ (law : Law) (state : List Entry → SpaceMap → Type 0) (spells : List ℕ → Saved → Type 0) (run : MayRun law) (lines : List NamedLine) (home : ℕ → ℕ) (nodes : ℕ) (c : NodeCourse) (looks : List (Option Looked)) (n from done : ℕ) (seat seat' : SeatView) (desks : List Desk) (journal : List Event) (begins : BeginsAt lines from done) (low : done ≤ c.phase + 1) (r : Rests law state spells lines home nodes c looks n from done seat desks) (still : SealsNone n c.seen journal) (adds : OwnAdds n IsOfSessions c.seen journal) (moves : Moves (record law { may = OwnWithin n law.may (sent_by desks) }) (node_of seat c.seen) (node_of seat' journal) []) (same : seat'.node.outbox ≡ seat.node.outbox) (now : WorkerOk law state spells n journal seat' desks) where
+module _ (law : Law) (meaning : Meaning) (run : MayRun law) (lines : List NamedLine) (home : ℕ → ℕ) (nodes : ℕ) (c : NodeCourse) (looks : List (Option Looked)) (n from done : ℕ) (seat seat' : SeatView) (desks : List Desk) (journal : List Event) (begins : BeginsAt lines from done) (low : done ≤ c.phase + 1) (r : Rests law meaning lines home nodes c looks n from done seat desks) (still : SealsNone n c.seen journal) (adds : OwnAdds n IsOfSessions c.seen journal) (moves : Moves (record law { may = OwnWithin n law.may (sent_by desks) }) (node_of seat c.seen) (node_of seat' journal) []) (same : seat'.node.outbox ≡ seat.node.outbox) (now : WorkerOk law meaning n journal seat' desks) where
   abbrev then' : NodeCourse
   then' = advanced c n [] journal c.when
 
   legal : IsLegal law journal
-  legal = worker_legal law state spells n journal seat' desks now
+  legal = worker_legal law meaning n journal seat' desks now
 
   tells : TellsOn lines looks n seat.node.replica.cursor seat'.node.replica.cursor c.seen journal
   tells = tells_still law run lines looks n c.seen journal moves.goes.spends.more moves.goes.spends.seen legal seat.node.replica.cursor seat'.node.replica.cursor moves.goes.keeps.forward r.node.did.told adds
@@ -67,7 +65,7 @@ module _ (law : Law) (state : List Entry → SpaceMap → Type 0) (spells : List
       (let under = begins.before i l at before in omega (arith, under, low)) (λ over. over) moves.goes.keeps.forward refl
       (λ d get. (d, get, desk_same c then' seat.node.replica.cursor (session_in l.asks) d refl)) (r.node.played i l before at own)
 
-  pub node_finished : HasRested law state spells lines home nodes c looks n from done journal seat' desks
+  pub node_finished : HasRested law meaning lines home nodes c looks n from done journal seat' desks
   node_finished = record {
     course = then';
     seen_is = refl;

@@ -1,7 +1,6 @@
--- What nodes tell stands behind what it tells, still where nobody but one of them had events.
-use Rattle.std.proofs.Common.{◌≡◌, refl, sym, ap, ◌∙◌, subst, ◌⊎◌, inl, inr, ⊎_elim, ℕ, List, [], ◌∷◌, ◌++◌, append_assoc, append-nil}
+-- What nodes tell stands behind what it tells, and their requests for trims behind reports of as much, still as a journal goes on.
+use Rattle.std.proofs.Common.{◌≡◌, refl, sym, ap, ◌∙◌, subst, ◌⊎◌, inl, inr, ⊎_elim, ℕ, ◌<◌, ◌≤◌, List, [], ◌∷◌, ◌++◌, length, length-append, arith, append-nil}
 use Rattle.std.specs.Prelude.{Contains}
-use Rattle.std.proofs.lemmas.List.{append_cancel_left}
 use Rattle.delos_types.specs.declared.entry.Entry.{Entry}
 use Rattle.legal_journal.specs.Law.{Law}
 use Rattle.legal_journal.specs.declared.events.Event.{Event}
@@ -12,11 +11,11 @@ use Rattle.engine_api.specs.declared.content.Content.{Content}
 use Rattle.engine_api.specs.declared.content.Content.TheVariants as content
 use Rattle.engine_api.specs.declared.content.Placed.{Placed}
 use Rattle.engine_api.specs.Items.{unpack}
-use Rattle.turn_scopes.specs.Alone.{AreOwn, OwnSince}
-use Rattle.node_lines.specs.Workers.{Grows, IsCommand, OwnAdds, appended_by}
-use Rattle.node_lines.proofs.Own.{all_adds, own_stays}
-use Rattle.node_course.specs.Telling.{AreBehind, IsBehind, KeepsBehind}
-use Rattle.node_course.proofs.Moments.{grows_not}
+use Rattle.node_lines.specs.Workers.{Grows, OwnAdds, appended_by}
+use Rattle.node_lines.proofs.Own.{own_stays}
+use Rattle.node_course.specs.Telling.{AreBehind, AsksBehind, IsBehind, WasHeld}
+use Rattle.node_course.proofs.Events.{appended_same}
+use Rattle.node_course.proofs.Moments.{grows_both, grows_not}
 use Rattle.node_course.proofs.Stands.{behind_so}
 
 -- Journals
@@ -37,39 +36,23 @@ begins_or (x ∷ a) (y ∷ b) c d e = by (head_same x y (a ++ c) (b ++ d) e) (be
     by same (inl g) = inl (g.0, ap (λ l. y ∷ l) g.1 ∙ ap (λ z. z ∷ (a ++ g.0)) (sym same))
     by same (inr g) = inr (g.0, ap (λ l. x ∷ l) g.1 ∙ ap (λ z. z ∷ (b ++ g.0)) same)
 
-own_parts : (who : ℕ) (a b : List Event) → AreOwn who (a ++ b) → AreOwn who a × AreOwn who b
-own_parts who [] b h = (tt, h)
-own_parts who (e ∷ a) b h = let rest = own_parts who a b h.1 in ((h.0, rest.0), rest.1)
+shorter : (a b : List Event) → Grows a b → length a ≤ length b
+shorter a b g = let size = ap length g.1 in let parts = length-append a g.0 in omega (arith, size, parts)
 
-others_end : (who : ℕ) (a b : List Event) → AreOthers who (a ++ b) → AreOthers who b
-others_end who [] b h = h
-others_end who (e ∷ a) b h = others_end who a b h.1
+-- of two moments of a journal the first begins the other, or is a later one
+pub moments_or : (a b journal : List Event) → Grows a journal → Grows b journal → Grows a b ⊎ (Grows b a × (length b < length a))
+moments_or a b journal g h = ⊎_elim (λ (low : Grows a b). inl low) (λ (high : Grows b a). by high.0 high.1) (begins_or a b g.0 h.0 (sym g.1 ∙ h.1))
+  where
+    by : (more : List Event) → a ≡ b ++ more → Grows a b ⊎ (Grows b a × (length b < length a))
+    by [] is = inl ([], sym (append-nil a ∙ (is ∙ append-nil b)))
+    by (x ∷ more) is = let size = ap length is in let parts = length-append b (x ∷ more) in inr ((x ∷ more, is), omega (arith, size, parts))
 
-none_both : (who : ℕ) (es : List Event) → AreOwn who es → AreOthers who es → es ≡ []
-none_both who [] own others = refl
-none_both who (e ∷ es) own others = absurd (others.0 own.0)
-
-own_split : (who : ℕ) (base mid new : List Event) → OwnSince who base new → Grows base mid → Grows mid new → OwnSince who base mid × OwnSince who mid new
-own_split who base mid new since g h =
-    let same : since.more ≡ g.0 ++ h.0 = append_cancel_left base since.more (g.0 ++ h.0) (sym since.seen ∙ h.1 ∙ ap (λ l. l ++ h.0) g.1 ∙ append_assoc base g.0 h.0) in
-    let parts = own_parts who g.0 h.0 (subst (AreOwn who) same since.own) in
-    (record { more = g.0; seen = g.1; own = parts.0 }, record { more = h.0; seen = h.1; own = parts.1 })
-
-pub adds_from : (who : ℕ) (P : Entry → Type 0) (old base new : List Event) → Grows old base → OwnAdds who P old new → OwnAdds who P base new
-adds_from who P old base new up adds = λ e own. ⊎_elim
-    (λ (was : Contains (appended_by who old) e). inl (subst (λ es. Contains (appended_by who es) e) (sym up.1) (own_stays who old up.0 e was)))
-    (λ (now : P e). inr now)
-    (adds e own)
+pub own_upto : (n : ℕ) (a b : List Event) → Grows a b → (e : Entry) → Contains (appended_by n a) e → Contains (appended_by n b) e
+own_upto n a b g e h = subst (λ es. Contains (appended_by n es) e) (sym g.1) (own_stays n a g.0 e h)
 
 -- What was told
 
-pub behind_command : (journal : List Event) (c : Content) → IsCommand c → IsBehind journal c
-behind_command journal (content.Session s r x) h = tt
-behind_command journal (content.Alive node n) h = absurd h
-behind_command journal (content.Leave node) h = absurd h
-behind_command journal (content.Trim n) h = absurd h
-
-behind_then : (law : Law) (old new : List Event) → Grows old new → IsLegal law new → (c : Content) → IsBehind old c → IsBehind new c
+pub behind_then : (law : Law) (old new : List Event) → Grows old new → IsLegal law new → (c : Content) → IsBehind old c → IsBehind new c
 behind_then law old new g legal (content.Session s r x) h = tt
 behind_then law old new g legal (content.Alive node n) h = behind_so law old new g.0 g.1 legal n (content.Alive node n) h
 behind_then law old new g legal (content.Leave node) h = tt
@@ -79,31 +62,32 @@ behind_then law old new g legal (content.Trim n) h = behind_so law old new g.0 g
 pub behind_still : (law : Law) (old new : List Event) → Grows old new → IsLegal law new → ((e : Entry) → Contains (appended new) e → Contains (appended old) e) → AreBehind old → AreBehind new
 behind_still law old new g legal back was = λ e p there among. behind_then law old new g legal p.content (was e p (back e there) among)
 
--- The node added such entries alone, each of which stands behind what it tells, if so it was of those before.
-module _ (law : Law) (n : ℕ) (old new : List Event) (g : Grows old new) (legal : IsLegal law new) (P : Entry → Type 0) (adds : OwnAdds n P old new)
-    (stands : (base : List Event) → Grows old base → OwnSince n base new → AreBehind base → (e : Entry) (p : Placed) → P e → Contains (unpack 0 e) p → IsBehind new p.content) where
-  from : (base : List Event) → Grows old base → OwnSince n base new → AreBehind base → AreBehind new
-  from base up since was = λ e p there among. ⊎_elim
-      (λ (before : Contains (appended base) e). behind_then law base new (since.more, since.seen) legal p.content (was e p before among))
-      (λ (now : P e). stands base up since was e p now among)
-      (all_adds n P base new since (adds_from n P old base new up adds) e there)
+-- What a node asked for
 
-  pub keeps_on : KeepsBehind n old → KeepsBehind n new
-  keeps_on keeps = λ base since was. ⊎_elim
-      (λ (low : Grows base old). let parts = own_split n base old new since low g in from old (grows_not old) parts.1 (keeps base parts.0 was))
-      (λ (high : Grows old base). from base high since was)
-      (begins_or base old since.more g.0 (sym since.seen ∙ g.1))
+later_held : (a b : List Event) (position : ℕ) → Grows a b → WasHeld a position → WasHeld b position
+later_held a b position g h = record { before = h.before; grows = grows_both h.before a b h.grows g; earlier = let low = h.earlier in let up = shorter a b g in omega (arith, low, up); held = h.held }
 
--- Others had events: the node had none of them.
-pub keeps_beside : (n : ℕ) (old more : List Event) → AreOthers n more → KeepsBehind n old → KeepsBehind n (old ++ more)
-keeps_beside n old more others keeps = λ base since was. ⊎_elim
-    (λ (low : Grows base old).
-    let parts = own_split n base old (old ++ more) since low (more, refl) in
-    let same : more ≡ parts.1.more = append_cancel_left old more parts.1.more parts.1.seen in
-    let none : more ≡ [] = none_both n more (subst (AreOwn n) (sym same) parts.1.own) others in
-    subst AreBehind (sym (ap (λ l. old ++ l) none ∙ append-nil old)) (keeps base parts.0 was))
-    (λ (high : Grows old base).
-    let same : more ≡ high.0 ++ since.more = append_cancel_left old more (high.0 ++ since.more) (since.seen ∙ ap (λ l. l ++ since.more) high.1 ∙ append_assoc old high.0 since.more) in
-    let none : since.more ≡ [] = none_both n since.more since.own (others_end n high.0 since.more (subst (AreOthers n) same others)) in
-    subst AreBehind (sym (since.seen ∙ ap (λ l. base ++ l) none ∙ append-nil base)) was)
-    (begins_or base old since.more more (sym since.seen))
+-- what it had begun to append by then it asked behind a report, at each moment since too
+asked_by_then : (n : ℕ) (old new : List Event) → Grows old new → AsksBehind n old → (early : List Event) (e : Entry) (p : Placed) (position : ℕ) → Grows early new → Contains (appended_by n early) e → Contains (appended_by n old) e → Contains (unpack 0 e) p
+    → p.content ≡ content.Trim position → WasHeld early position
+asked_by_then n old new g asks early e p position up own was among is = ⊎_elim
+    (λ (low : Grows early old). asks early e p position low own among is)
+    (λ (high : Grows old early × (length old < length early)). later_held old early position high.0 (asks old e p position (grows_not old) was among is))
+    (moments_or early old new up g)
+
+-- The node added such entries alone, of which each that asks for a trim does so behind a report, or was appended before.
+pub asks_on : (n : ℕ) (old new : List Event) (P : Entry → Type 0) → Grows old new → OwnAdds n P old new
+    → ((early : List Event) (e : Entry) (p : Placed) (position : ℕ) → Grows early new → Contains (appended_by n early) e → P e → Contains (unpack 0 e) p → p.content ≡ content.Trim position → Contains (appended_by n old) e ⊎ WasHeld early position)
+    → AsksBehind n old → AsksBehind n new
+asks_on n old new P g adds each asks = λ early e p position up own among is. ⊎_elim
+    (λ (was : Contains (appended_by n old) e). asked_by_then n old new g asks early e p position up own was among is)
+    (λ (now : P e). ⊎_elim
+    (λ (was : Contains (appended_by n old) e). asked_by_then n old new g asks early e p position up own was among is)
+    (λ (held : WasHeld early position). held)
+    (each early e p position up own now among is))
+    (adds e (own_upto n early new up e own))
+
+-- Others had events: the node appended nothing more.
+pub asks_beside : (n : ℕ) (old more : List Event) → AreOthers n more → AsksBehind n old → AsksBehind n (old ++ more)
+asks_beside n old more others asks = λ early e p position up own among is.
+    asked_by_then n old (old ++ more) (more, refl) asks early e p position up own (subst (λ es. Contains es e) (appended_same n old more others) (own_upto n early (old ++ more) up e own)) among is

@@ -1,7 +1,5 @@
 -- A line had its node leave.
 use Rattle.std.proofs.Common.{◌≡◌, refl, subst, ℕ, ◌+◌, List, [], ◌∷◌, Option, Some, None, map, slice_get, slice_set, arith}
-use Rattle.delos_types.specs.Spaces.{SpaceMap}
-use Rattle.delos_types.specs.declared.entry.Entry.{Entry}
 use Rattle.legal_journal.specs.Law.{Law}
 use Rattle.legal_journal.specs.declared.events.Event.{Event}
 use Rattle.legal_journal.specs.Journal.{IsLegal}
@@ -9,7 +7,7 @@ use Rattle.virtual_log.specs.Sealing.{SealsNone}
 use Rattle.virtual_log.specs.declared.extend.Extension.{Extension}
 use Rattle.engine_api.specs.declared.content.Content.TheVariants as content
 use Rattle.engine_api.specs.Packing.{leave_item, packed}
-use Rattle.replica_api.specs.Replica.{Saved}
+use Rattle.replica_api.specs.Replica.{Meaning}
 use Rattle.base_engine.specs.Node.{NodeView}
 use Rattle.script_text.specs.declared.line.Admin.TheVariants.{Retire}
 use Rattle.script_text.specs.declared.asks.NamedLine.{NamedLine}
@@ -43,7 +41,7 @@ told_leave law old new legal left = record {
   within = left.played;
 }
 
-module _ (law : Law) (state : List Entry → SpaceMap → Type 0) (spells : List ℕ → Saved → Type 0) (run : MayRun law) (lines : List NamedLine) (home : ℕ → ℕ) (nodes : ℕ) (c : NodeCourse) (looks : List (Option Looked)) (n from i : ℕ) (line : NamedLine) (look : Looked) (seat seat' : SeatView) (desks desks' : List Desk) (taken : IsAnswered desks desks') (journal : List Event) (are : AreLines lines home nodes) (at : slice_get lines i ≡ Some line) (node : line.node ≡ n) (phase : line.phase ≡ c.phase) (asks_is : line.asks ≡ asks.Admin Retire) (was : NodeAt law state spells lines home nodes c looks n from i c.phase seat desks) (still : SealsNone n c.seen journal) (adds : LeaveAdds n c.seen journal) (does : Leaves (record law { may = OwnWithin n law.may (sent_by desks) }) (node_of seat c.seen) (node_of seat' journal) look) (now : WorkerOk law state spells n journal seat' desks') where
+module _ (law : Law) (meaning : Meaning) (run : MayRun law) (lines : List NamedLine) (home : ℕ → ℕ) (nodes : ℕ) (c : NodeCourse) (looks : List (Option Looked)) (n from i : ℕ) (line : NamedLine) (look : Looked) (seat seat' : SeatView) (desks desks' : List Desk) (taken : IsAnswered desks desks') (journal : List Event) (are : AreLines lines home nodes) (at : slice_get lines i ≡ Some line) (node : line.node ≡ n) (phase : line.phase ≡ c.phase) (asks_is : line.asks ≡ asks.Admin Retire) (was : NodeAt law meaning lines home nodes c looks n from i c.phase seat desks) (still : SealsNone n c.seen journal) (adds : LeaveAdds n c.seen journal) (does : Leaves (record law { may = OwnWithin n law.may (sent_by desks) }) (node_of seat c.seen) (node_of seat' journal) look) (now : WorkerOk law meaning n journal seat' desks') where
   abbrev then' : NodeCourse
   then' = advanced c n (map (λ g. g.cause) does.moves.goes.given) journal c.when
 
@@ -51,7 +49,7 @@ module _ (law : Law) (state : List Entry → SpaceMap → Type 0) (spells : List
   So = LeavesSo (node_of seat c.seen) (node_of seat' journal) does.others
 
   legal : IsLegal law journal
-  legal = worker_legal law state spells n journal seat' desks' now
+  legal = worker_legal law meaning n journal seat' desks' now
 
   not_yet : slice_get looks i ≡ Some None
   not_yet = was.waiting i line (omega arith) at node
@@ -115,7 +113,10 @@ module _ (law : Law) (state : List Entry → SpaceMap → Type 0) (spells : List
   tells : TellsOn lines looks' n seat.node.replica.cursor seat'.node.replica.cursor c.seen journal
   tells =
       tells_one law c.seen journal (does.moves.goes.spends.more, does.moves.goes.spends.seen) legal lines looks looks' n (came_on lines looks n i line look at not_yet) run seat.node.replica.cursor seat'.node.replica.cursor
-      does.moves.goes.keeps.forward was.did.told (content.Leave n) (refl, asked) tt (λ base up since stood. tt) adds
+      does.moves.goes.keeps.forward was.did.told (content.Leave n) (refl, asked) tt (λ early e p position up own among is told. absurd (apart position told)) adds
+    where
+      apart : (position : ℕ) → content.Leave n ≡ content.Trim position → ⊥
+      apart position e = cc
 
   stood : (x : Looked) → So x → LeftSo journal seat'.node.replica.cursor n x → HasToldSo journal n x
   stood (looked.Found after found) h l = tt
@@ -126,8 +127,8 @@ module _ (law : Law) (state : List Entry → SpaceMap → Type 0) (spells : List
   stood looked.Left h l = l.stands
   stood (looked.Trimmed trim) h l = tt
 
-  pub line_left : LineWent law state spells lines home nodes c looks' n from (i + 1) journal seat' desks'
+  pub line_left : LineWent law meaning lines home nodes c looks' n from (i + 1) journal seat' desks'
   line_left =
-      line_told law state spells lines home nodes c looks n from i line Retire look seat seat' desks desks' taken journal are at node phase asks_is was still does.others does.moves now none
+      line_told law meaning lines home nodes c looks n from i line Retire look seat seat' desks desks' taken journal are at node phase asks_is was still does.others does.moves now none
       (paid_is look does.leaves) (of_node look does.leaves) (none_reported look does.leaves) (left look does.leaves)
       tells (stood look does.leaves (left look does.leaves)) (λ trim is. absurd (subst So is does.leaves)) (λ position is. absurd (subst So is does.leaves))

@@ -1,4 +1,5 @@
 pub mod Advance
+pub mod Asked
 pub mod Asking
 pub mod Beginning
 pub mod Behind

@@ -2,8 +2,6 @@
 use Rattle.std.proofs.Common.{◌≡◌, ◌≢◌, refl, sym, ap, ◌∙◌, subst, inl, ⊎_elim, ℕ, ◌+◌, ◌<◌, ◌≤◌, ◌==◌, Bool, true, false, List, [], Option, Some, count_by, slice_get, slice_set, Contains, arith}
 use Rattle.std.proofs.lemmas.Bool.{cases_lt}
 use Rattle.std.proofs.lemmas.Bool.Decides.{nat_tests}
-use Rattle.delos_types.specs.Spaces.{SpaceMap}
-use Rattle.delos_types.specs.declared.entry.Entry.{Entry}
 use Rattle.delos_types.specs.declared.cause.Cause.{Cause}
 use Rattle.delos_types.specs.declared.cause.Cause.TheVariants as cause
 use Rattle.table_core.specs.declared.command.Command.{Command}
@@ -12,7 +10,7 @@ use Rattle.legal_journal.specs.declared.events.Event.{Event}
 use Rattle.legal_journal.specs.Journal.{IsLegal}
 use Rattle.journal_laws.specs.Own.{faults_of}
 use Rattle.virtual_log.specs.Sealing.{SealsNone}
-use Rattle.replica_api.specs.Replica.{Saved}
+use Rattle.replica_api.specs.Replica.{Meaning}
 use Rattle.script_text.specs.declared.line.Session.{Session}
 use Rattle.script_text.specs.declared.asks.NamedLine.{NamedLine}
 use Rattle.script_text.specs.declared.asks.Asks.TheVariants as asks
@@ -39,7 +37,7 @@ use Rattle.node_course.proofs.Advance.{advanced, advanced_on, stores_counted}
 use Rattle.node_course.proofs.Growing.{DeskGrew, DeskOfOld, Grown, desk_same, ended_grows, grown_of, halted_grows, played_grows}
 use Rattle.node_course.proofs.Coming.{came_at, given_among, given_then}
 
-module _ (law : Law) (state : List Entry → SpaceMap → Type 0) (spells : List ℕ → Saved → Type 0) (run : MayRun law) (lines : List NamedLine) (home : ℕ → ℕ) (nodes : ℕ) (c : NodeCourse) (looks : List (Option Looked)) (n from i : ℕ) (line : NamedLine) (session : Session) (rank : ℕ) (command : Command) (seat seat' : SeatView) (desks desks' : List Desk) (journal : List Event) (are : AreLines lines home nodes) (at : slice_get lines i ≡ Some line) (node : line.node ≡ n) (phase : line.phase ≡ c.phase) (asks_is : line.asks ≡ asks.Logged session rank command) (before : NodeAt law state spells lines home nodes c looks n from i c.phase seat desks) (still : SealsNone n c.seen journal) (adds : OwnAdds n IsOfSessions c.seen journal) (logs : Logs law (node_of seat c.seen) (node_of seat' journal) session.id desks desks') (now : WorkerOk law state spells n journal seat' desks') where
+module _ (law : Law) (meaning : Meaning) (run : MayRun law) (lines : List NamedLine) (home : ℕ → ℕ) (nodes : ℕ) (c : NodeCourse) (looks : List (Option Looked)) (n from i : ℕ) (line : NamedLine) (session : Session) (rank : ℕ) (command : Command) (seat seat' : SeatView) (desks desks' : List Desk) (journal : List Event) (are : AreLines lines home nodes) (at : slice_get lines i ≡ Some line) (node : line.node ≡ n) (phase : line.phase ≡ c.phase) (asks_is : line.asks ≡ asks.Logged session rank command) (before : NodeAt law meaning lines home nodes c looks n from i c.phase seat desks) (still : SealsNone n c.seen journal) (adds : OwnAdds n IsOfSessions c.seen journal) (logs : Logs law (node_of seat c.seen) (node_of seat' journal) session.id desks desks') (now : WorkerOk law meaning n journal seat' desks') where
   here : (t : ℕ) → (session.id == t) ≡ true → session.id ≡ t
   here t e = grind (arith, nat_tests, e)
 
@@ -53,7 +51,7 @@ module _ (law : Law) (state : List Entry → SpaceMap → Type 0) (spells : List
   then' = advanced c n came journal c.when
 
   legal : IsLegal law journal
-  legal = worker_legal law state spells n journal seat' desks' now
+  legal = worker_legal law meaning n journal seat' desks' now
 
   tells : TellsOn lines looks n seat.node.replica.cursor seat'.node.replica.cursor c.seen journal
   tells = tells_still law run lines looks n c.seen journal logs.logs.goes.spends.more logs.logs.goes.spends.seen legal seat.node.replica.cursor seat'.node.replica.cursor logs.logs.goes.keeps.forward before.did.told adds
@@ -186,7 +184,7 @@ module _ (law : Law) (state : List Entry → SpaceMap → Type 0) (spells : List
       (subst (λ (x : NamedLine). PlayedSo lines then' c.phase seat'.node.replica.cursor n desks' looks i x.phase x.asks) is line_played))
       (cases_lt j i)
 
-  node_then : NodeAt law state spells lines home nodes then' looks n from (i + 1) c.phase seat' desks'
+  node_then : NodeAt law meaning lines home nodes then' looks n from (i + 1) c.phase seat' desks'
   node_then = record {
     ok = now;
     did = did;
@@ -202,7 +200,7 @@ module _ (law : Law) (state : List Entry → SpaceMap → Type 0) (spells : List
     stores = stores_counted lines n c.phase c.faults looks looks came [] came seat.node.replica.faults seat'.node.replica.faults (λ P. let e : count_by P came + 0 ≡ count_by P came = omega arith in e) (omega arith) logs.logs.goes.spends.disk before.stores;
   }
 
-  pub line_logged : LineWent law state spells lines home nodes c looks n from (i + 1) journal seat' desks'
+  pub line_logged : LineWent law meaning lines home nodes c looks n from (i + 1) journal seat' desks'
   line_logged = record {
     course = then';
     seen_is = refl;

@@ -2,8 +2,6 @@
 use Rattle.std.proofs.Common.{◌≡◌, refl, sym, ap, ◌∙◌, subst, ◌⊎◌, inl, inr, ⊎_elim, ℕ, ◌+◌, ◌<◌, ◌≤◌, false, List, [], Option, Some, None, IsSome, map, length, slice_get, slice_set, arith}
 use Rattle.std.specs.List.{AllByRecursion}
 use Rattle.std.proofs.lemmas.Bool.{cases_lt}
-use Rattle.delos_types.specs.Spaces.{SpaceMap}
-use Rattle.delos_types.specs.declared.entry.Entry.{Entry}
 use Rattle.delos_types.specs.declared.cause.Cause.{Cause}
 use Rattle.table_core.specs.declared.command.Query.{Query}
 use Rattle.table_core.specs.declared.command.Found.{Found}
@@ -16,7 +14,7 @@ use Rattle.virtual_log.specs.Sealing.{SealsNone}
 use Rattle.virtual_log.specs.declared.extend.Extension.{Extension}
 use Rattle.engine_api.specs.Acted.{asked_in}
 use Rattle.engine_api.specs.Order.{gap_from}
-use Rattle.replica_api.specs.Replica.{Saved}
+use Rattle.replica_api.specs.Replica.{Meaning}
 use Rattle.base_engine.specs.Settling.{cause_in}
 use Rattle.script_text.specs.declared.line.Session.{Session}
 use Rattle.script_text.specs.declared.asks.NamedLine.{NamedLine}
@@ -54,7 +52,7 @@ use Rattle.node_course.proofs.Replacing.{LooksOn}
 use Rattle.node_course.proofs.Playing as playing
 use Rattle.node_course.proofs.Playing.{none_taken}
 
-module _ (law : Law) (state : List Entry → SpaceMap → Type 0) (spells : List ℕ → Saved → Type 0) (run : MayRun law) (lines : List NamedLine) (home : ℕ → ℕ) (nodes : ℕ) (c : NodeCourse) (looks : List (Option Looked)) (n from i : ℕ) (line : NamedLine) (session : Session) (query : Query) (desk : Desk) (look : Looked) (seat seat' : SeatView) (desks : List Desk) (journal : List Event) (are : AreLines lines home nodes) (begins : BeginsAt lines from c.phase) (at : slice_get lines i ≡ Some line) (node : line.node ≡ n) (phase : line.phase ≡ c.phase) (asks_is : line.asks ≡ asks.Look session query) (was : NodeAt law state spells lines home nodes c looks n from i c.phase seat desks) (still : SealsNone n c.seen journal) (adds : OwnAdds n IsOfSessions c.seen journal) (desk_at : slice_get desks session.id ≡ Some desk) (does : Looks (record law { may = OwnWithin n law.may (sent_by desks) }) (node_of seat c.seen) (node_of seat' journal) desk query look) (now : WorkerOk law state spells n journal seat' desks) where
+module _ (law : Law) (meaning : Meaning) (run : MayRun law) (lines : List NamedLine) (home : ℕ → ℕ) (nodes : ℕ) (c : NodeCourse) (looks : List (Option Looked)) (n from i : ℕ) (line : NamedLine) (session : Session) (query : Query) (desk : Desk) (look : Looked) (seat seat' : SeatView) (desks : List Desk) (journal : List Event) (are : AreLines lines home nodes) (begins : BeginsAt lines from c.phase) (at : slice_get lines i ≡ Some line) (node : line.node ≡ n) (phase : line.phase ≡ c.phase) (asks_is : line.asks ≡ asks.Look session query) (was : NodeAt law meaning lines home nodes c looks n from i c.phase seat desks) (still : SealsNone n c.seen journal) (adds : OwnAdds n IsOfSessions c.seen journal) (desk_at : slice_get desks session.id ≡ Some desk) (does : Looks (record law { may = OwnWithin n law.may (sent_by desks) }) (node_of seat c.seen) (node_of seat' journal) desk query look) (now : WorkerOk law meaning n journal seat' desks) where
   abbrev came : List Cause
   came = map (λ g. g.cause) does.moves.goes.given
 
@@ -84,7 +82,7 @@ module _ (law : Law) (state : List Entry → SpaceMap → Type 0) (spells : List
   own x is = absurd (subst (LooksSo (node_of seat c.seen) (node_of seat' journal) desk query does.others) is does.looks)
 
   legal : IsLegal law journal
-  legal = worker_legal law state spells n journal seat' desks now
+  legal = worker_legal law meaning n journal seat' desks now
 
   tells : TellsOn lines looks' n seat.node.replica.cursor seat'.node.replica.cursor c.seen journal
   tells =
@@ -123,10 +121,10 @@ module _ (law : Law) (state : List Entry → SpaceMap → Type 0) (spells : List
   unlogged s = ap (is_of s) asks_is
 
   grown : Grown law c then'
-  grown = playing.grown law state spells lines home nodes c looks n from i line look seat seat' desks desks (none_taken desks) journal are at node phase unlogged was does.others does.moves (paid_is look does.looks) on own seals now tells (stood look does.looks) trimmed clean high_read
+  grown = playing.grown law meaning lines home nodes c looks n from i line look seat seat' desks desks (none_taken desks) journal are at node phase unlogged was does.others does.moves (paid_is look does.looks) on own seals now tells (stood look does.looks) trimmed clean high_read
 
   all_given : AllByRecursion (λ g. CameTo then'.faults g.cause n c.phase) seat'.node.outbox.given
-  all_given = playing.all_given law state spells lines home nodes c looks n from i line look seat seat' desks desks (none_taken desks) journal are at node phase unlogged was does.others does.moves (paid_is look does.looks) on own seals now tells (stood look does.looks) trimmed clean high_read
+  all_given = playing.all_given law meaning lines home nodes c looks n from i line look seat seat' desks desks (none_taken desks) journal are at node phase unlogged was does.others does.moves (paid_is look does.looks) on own seals now tells (stood look does.looks) trimmed clean high_read
 
   -- The line
 
@@ -209,5 +207,5 @@ module _ (law : Law) (state : List Entry → SpaceMap → Type 0) (spells : List
   line_played = subst (PlayedSo lines then' c.phase seat'.node.replica.cursor n desks looks' i line.phase) (sym asks_is)
       (look, set_same looks i (Some look) None not_yet, λ d get. subst (λ x. LookedSo lines then' seat'.node.replica.cursor n x i line.phase session.id query look) (same_some desk d (sym desk_at ∙ get)) (looked_so look does.looks))
 
-  pub line_looked : LineWent law state spells lines home nodes c looks' n from (i + 1) journal seat' desks
-  line_looked = playing.line_went law state spells lines home nodes c looks n from i line look seat seat' desks desks (none_taken desks) journal are at node phase unlogged was does.others does.moves (paid_is look does.looks) on own seals now tells (stood look does.looks) trimmed clean high_read line_played
+  pub line_looked : LineWent law meaning lines home nodes c looks' n from (i + 1) journal seat' desks
+  line_looked = playing.line_went law meaning lines home nodes c looks n from i line look seat seat' desks desks (none_taken desks) journal are at node phase unlogged was does.others does.moves (paid_is look does.looks) on own seals now tells (stood look does.looks) trimmed clean high_read line_played

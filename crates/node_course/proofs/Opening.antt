@@ -1,11 +1,9 @@
 -- A node before its first line.
 use Rattle.std.proofs.Common.{◌≡◌, refl, sym, ap, ◌∙◌, subst, ℕ, zero, suc, ◌+◌, ◌==◌, ◌&&◌, Bool, true, false, cond, List, [], ◌∷◌, Option, Some, None, length, count_by, slice_get, Contains, arith}
 use Rattle.std.specs.List.{AllByRecursion}
-use Rattle.delos_types.specs.Spaces.{SpaceMap}
-use Rattle.delos_types.specs.declared.entry.Entry.{Entry}
 use Rattle.delos_types.specs.declared.cause.Cause.{Cause}
 use Rattle.legal_journal.specs.Law.{Law}
-use Rattle.replica_api.specs.Replica.{Saved}
+use Rattle.replica_api.specs.Replica.{Meaning}
 use Rattle.base_engine.specs.declared.outbox.Given.{Given}
 use Rattle.script_text.specs.declared.asks.NamedLine.{NamedLine}
 use Rattle.fitting_run.specs.Faults.{lacks_store}
@@ -21,6 +19,7 @@ use Rattle.node_course.specs.Played.{Came, goes_further, went_further}
 use Rattle.node_course.specs.Course.{CourseOk}
 use Rattle.node_course.specs.Workers.{HasNotBegun, Rests}
 use Rattle.node_course.proofs.Legal.{worker_legal}
+use Rattle.node_course.proofs.Keeping.{own_upto}
 use Rattle.node_course.proofs.Looks.{no_look}
 use Rattle.node_course.proofs.Moments.{grows_not}
 
@@ -65,13 +64,13 @@ first_moment : (p : ℕ) → moment first_course p ≡ []
 first_moment zero = refl
 first_moment (suc p) = refl
 
-module _ (law : Law) (state : List Entry → SpaceMap → Type 0) (spells : List ℕ → Saved → Type 0) (lines : List NamedLine) (home : ℕ → ℕ) (nodes : ℕ) (looks : List (Option Looked)) (n : ℕ) (seat : SeatView) (desks : List Desk) (size : length looks ≡ length lines) (none : AllByRecursion (λ look. look ≡ None) looks) (nodes_is : seat.node.nodes ≡ nodes) (new : HasNotBegun seat desks) (ok : WorkerOk law state spells n [] seat desks) where
+module _ (law : Law) (meaning : Meaning) (lines : List NamedLine) (home : ℕ → ℕ) (nodes : ℕ) (looks : List (Option Looked)) (n : ℕ) (seat : SeatView) (desks : List Desk) (size : length looks ≡ length lines) (none : AllByRecursion (λ look. look ≡ None) looks) (nodes_is : seat.node.nodes ≡ nodes) (new : HasNotBegun seat desks) (ok : WorkerOk law meaning n [] seat desks) where
   never : (i : ℕ) (l : NamedLine) (look : Looked) → Came lines looks n i l look → ⊥
   never i l look come = no_look look (sym (none_there lines looks i l size none come.is) ∙ come.looked)
 
   did : CourseOk law lines nodes n first_course looks
   did = record {
-    legal = worker_legal law state spells n [] seat desks ok;
+    legal = worker_legal law meaning n [] seat desks ok;
     long = refl;
     rise = λ p. subst (λ m. Grows m (moment first_course (p + 1))) (sym (first_moment p)) (subst (Grows []) (sym (first_moment (p + 1))) (grows_not []));
     began = λ p s r e low there has. absurd (none_in e (subst (λ m. Contains (appended_by n m) e) (first_moment p) there));
@@ -87,7 +86,7 @@ module _ (law : Law) (state : List Entry → SpaceMap → Type 0) (spells : List
     };
     seals = λ calm. omega arith;
     told = λ e p there among. absurd (none_in e there);
-    behind = λ base since was e p there among. absurd (none_in e there);
+    behind = λ early e p position up own among is. absurd (none_in e (own_upto n early [] up e own));
     stand = λ i l look come. absurd (never i l look come);
     reports = record {
       each = λ i l position come. absurd (never i l (looked.Reported position) come);
@@ -96,7 +95,7 @@ module _ (law : Law) (state : List Entry → SpaceMap → Type 0) (spells : List
     trims = λ j l trim come. absurd (never j l (looked.Trimmed trim) come);
   }
 
-  pub node_opens : Rests law state spells lines home nodes first_course looks n 0 0 seat desks
+  pub node_opens : Rests law meaning lines home nodes first_course looks n 0 0 seat desks
   node_opens = record {
     node = record {
       ok = ok;

@@ -2,10 +2,8 @@
 use Rattle.std.proofs.Common.{◌≡◌, refl, sym, ap, ◌∙◌, subst, ◌⊎◌, inl, inr, ℕ, ◌+◌, ◌<◌, ◌≤◌, true, false, List, Option, Some, arith, eq-eqb}
 use Rattle.std.specs.Prelude.{◌==◌, slice_get}
 use Rattle.std.proofs.lemmas.Bool.{cases_lt}
-use Rattle.delos_types.specs.Spaces.{SpaceMap}
-use Rattle.delos_types.specs.declared.entry.Entry.{Entry}
 use Rattle.legal_journal.specs.Law.{Law}
-use Rattle.replica_api.specs.Replica.{Saved}
+use Rattle.replica_api.specs.Replica.{Meaning}
 use Rattle.script_text.specs.declared.asks.NamedLine.{NamedLine}
 use Rattle.script_text.specs.declared.asks.Asks.{Asks}
 use Rattle.script_text.specs.declared.asks.Asks.TheVariants as asks
@@ -18,7 +16,7 @@ use Rattle.node_course.specs.Desks.{DeskAt, WasEnded, PlayedSo}
 use Rattle.node_course.specs.Workers.{NodeAt}
 use Rattle.node_course.proofs.Script.{asked-elsewhere, asked-none}
 
-module _ (law : Law) (state : List Entry → SpaceMap → Type 0) (spells : List ℕ → Saved → Type 0) (lines : List NamedLine) (home : ℕ → ℕ) (nodes : ℕ) (c : NodeCourse) (looks : List (Option Looked)) (n from : ℕ) where
+module _ (law : Law) (meaning : Meaning) (lines : List NamedLine) (home : ℕ → ℕ) (nodes : ℕ) (c : NodeCourse) (looks : List (Option Looked)) (n from : ℕ) where
   desk_at : (i j done s : ℕ) (d : Desk) → asked_by lines n s j ≡ asked_by lines n s i → DeskAt lines home c n from i done s d → DeskAt lines home c n from j done s d
   desk_at i j done s d same h = record {
     asked = h.asked ∙ sym same;
@@ -31,7 +29,7 @@ module _ (law : Law) (state : List Entry → SpaceMap → Type 0) (spells : List
   }
 
   pub another_line : (i done : ℕ) (line : NamedLine) (seat : SeatView) (desks : List Desk) → slice_get lines i ≡ Some line → (line.node == n) ≡ false
-      → NodeAt law state spells lines home nodes c looks n from i done seat desks → NodeAt law state spells lines home nodes c looks n from (i + 1) done seat desks
+      → NodeAt law meaning lines home nodes c looks n from i done seat desks → NodeAt law meaning lines home nodes c looks n from (i + 1) done seat desks
   another_line i done line seat desks at other w = record {
     ok = w.ok;
     did = w.did;
@@ -81,7 +79,7 @@ module _ (law : Law) (state : List Entry → SpaceMap → Type 0) (spells : List
 
   pub phase_passed : (to : ℕ) (seat : SeatView) (desks : List Desk) → from ≤ to → BeginsAt lines from c.phase
       → ((i : ℕ) (l : NamedLine) → from ≤ i → i < to → slice_get lines i ≡ Some l → (l.node == n) ≡ false)
-      → NodeAt law state spells lines home nodes c looks n from from c.phase seat desks → NodeAt law state spells lines home nodes c looks n to to (c.phase + 1) seat desks
+      → NodeAt law meaning lines home nodes c looks n from from c.phase seat desks → NodeAt law meaning lines home nodes c looks n to to (c.phase + 1) seat desks
   phase_passed to seat desks le begins none w = record {
     ok = w.ok;
     did = w.did;

@@ -3,7 +3,6 @@ use Rattle.std.proofs.Common.{◌≡◌, ◌≢◌, refl, sym, ap, ◌∙◌, su
 use Rattle.std.specs.List.{AllByRecursion}
 use Rattle.std.proofs.lemmas.Bool.{cases_lt}
 use Rattle.std.proofs.lemmas.List.Sums.{sum_by-append}
-use Rattle.delos_types.specs.Spaces.{SpaceMap}
 use Rattle.delos_types.specs.declared.entry.Entry.{Entry}
 use Rattle.delos_types.specs.declared.cause.Cause.{Cause}
 use Rattle.delos_types.specs.declared.cause.Cause.TheVariants as cause
@@ -16,7 +15,7 @@ use Rattle.journal_laws.specs.Own.{faults_of}
 use Rattle.journal_laws.proofs.Changes.{held_appended}
 use Rattle.engine_api.specs.declared.content.Content.TheVariants as content
 use Rattle.engine_api.specs.Items.{unpack}
-use Rattle.replica_api.specs.Replica.{Saved}
+use Rattle.replica_api.specs.Replica.{Meaning}
 use Rattle.base_engine.specs.declared.outbox.Given.{Given}
 use Rattle.virtual_log.specs.declared.extend.Extension.{Extension}
 use Rattle.script_text.specs.declared.asks.NamedLine.{NamedLine}
@@ -59,7 +58,7 @@ use Rattle.node_course.proofs.Advance.{advance, advanced, advanced_on, count_at_
 use Rattle.node_course.proofs.Growing.{DeskOfOld, Grown, desk_answered, ended_grows, grown_of, halted_grows, played_grows}
 use Rattle.node_course.proofs.Coming.{given_then}
 
-module _ (law : Law) (state : List Entry → SpaceMap → Type 0) (spells : List ℕ → Saved → Type 0) (lines : List NamedLine) (home : ℕ → ℕ) (nodes : ℕ) (c : NodeCourse) (looks : List (Option Looked)) (n from i : ℕ) (line : NamedLine) (look : Looked) (seat seat' : SeatView) (desks desks' : List Desk) (taken : IsAnswered desks desks') (journal : List Event) (are : AreLines lines home nodes) (at : slice_get lines i ≡ Some line) (node : line.node ≡ n) (phase : line.phase ≡ c.phase) (unlogged : (s : ℕ) → logs_for s line ≡ false) (was : NodeAt law state spells lines home nodes c looks n from i c.phase seat desks) (others : List Cause) (moves : Moves (record law { may = OwnWithin n law.may (sent_by desks) }) (node_of seat c.seen) (node_of seat' journal) others) (paid_is : others ≡ failed_of look) (on : LooksOn (length law.shelf) n c.seen journal look) (own : (x : Extension) → look ≡ looked.Extended x → AsksNode line.asks) (seals : faults_of n journal ≡ [] → own_seals n journal ≤ went_further n lines (slice_set looks i (Some look))) (now : WorkerOk law state spells n journal seat' desks') (tells : TellsOn lines (slice_set looks i (Some look)) n seat.node.replica.cursor seat'.node.replica.cursor c.seen journal) (stood : HasToldSo journal n look)
+module _ (law : Law) (meaning : Meaning) (lines : List NamedLine) (home : ℕ → ℕ) (nodes : ℕ) (c : NodeCourse) (looks : List (Option Looked)) (n from i : ℕ) (line : NamedLine) (look : Looked) (seat seat' : SeatView) (desks desks' : List Desk) (taken : IsAnswered desks desks') (journal : List Event) (are : AreLines lines home nodes) (at : slice_get lines i ≡ Some line) (node : line.node ≡ n) (phase : line.phase ≡ c.phase) (unlogged : (s : ℕ) → logs_for s line ≡ false) (was : NodeAt law meaning lines home nodes c looks n from i c.phase seat desks) (others : List Cause) (moves : Moves (record law { may = OwnWithin n law.may (sent_by desks) }) (node_of seat c.seen) (node_of seat' journal) others) (paid_is : others ≡ failed_of look) (on : LooksOn (length law.shelf) n c.seen journal look) (own : (x : Extension) → look ≡ looked.Extended x → AsksNode line.asks) (seals : faults_of n journal ≡ [] → own_seals n journal ≤ went_further n lines (slice_set looks i (Some look))) (now : WorkerOk law meaning n journal seat' desks') (tells : TellsOn lines (slice_set looks i (Some look)) n seat.node.replica.cursor seat'.node.replica.cursor c.seen journal) (stood : HasToldSo journal n look)
     (trimmed : (trim : ℕ) → look ≡ looked.Trimmed trim → IsTrim lines (slice_set looks i (Some look)) nodes n (advanced c n (map (λ g. g.cause) moves.goes.given) journal c.when) i line trim)
     (clean : (position : ℕ) → look ≡ looked.Reported position → IsCleanPoint journal position) (high_read : (after : ℕ) (found : Found) → look ≡ looked.Found after found → seat.node.replica.cursor ≤ after) where
   abbrev came : List Cause
@@ -75,7 +74,7 @@ module _ (law : Law) (state : List Entry → SpaceMap → Type 0) (spells : List
   not_yet = was.waiting i line (omega arith) at node
 
   legal : IsLegal law journal
-  legal = worker_legal law state spells n journal seat' desks' now
+  legal = worker_legal law meaning n journal seat' desks' now
 
   goes : GoesOn c then'
   goes = advanced_on c n came journal moves.goes.spends.more c.when moves.goes.spends.seen
@@ -155,7 +154,7 @@ module _ (law : Law) (state : List Entry → SpaceMap → Type 0) (spells : List
   -- of a session it appended no command but of its lines before
   rank_low : (s r : ℕ) (e : Entry) → Contains (appended_by n journal) e → HasRank s r e → r ≤ asked_by lines n s i
   rank_low s r e own has =
-      let within = own_may (record law { may = OwnWithin n law.may (sent_by desks') }) journal n e (worker_within law state spells n journal seat' desks' now) own in
+      let within = own_may (record law { may = OwnWithin n law.may (sent_by desks') }) journal n e (worker_within law meaning n journal seat' desks' now) own in
       let low = within.1 refl s r has in
       let most = sent_low desks' s (asked_by lines n s i)
       (λ d get.
@@ -256,7 +255,7 @@ module _ (law : Law) (state : List Entry → SpaceMap → Type 0) (spells : List
         (subst (λ (x : NamedLine). PlayedSo lines then' c.phase seat'.node.replica.cursor n desks' looks' i x.phase x.asks) is line_played))
         (cases_lt j i)
 
-    node_then : NodeAt law state spells lines home nodes then' looks' n from (i + 1) c.phase seat' desks'
+    node_then : NodeAt law meaning lines home nodes then' looks' n from (i + 1) c.phase seat' desks'
     node_then = record {
       ok = now;
       did = did;
@@ -272,7 +271,7 @@ module _ (law : Law) (state : List Entry → SpaceMap → Type 0) (spells : List
       stores = stores_counted lines n c.phase c.faults looks looks' came (failed_of look) (causes_of moves.goes.given others) seat.node.replica.faults seat'.node.replica.faults both (paid (lacks_store n)) moves.goes.spends.disk was.stores;
     }
 
-    pub line_went : LineWent law state spells lines home nodes c looks' n from (i + 1) journal seat' desks'
+    pub line_went : LineWent law meaning lines home nodes c looks' n from (i + 1) journal seat' desks'
     line_went = record {
       course = then';
       seen_is = refl;

@@ -1,6 +1,5 @@
 -- A line had its node report how much of the log is clean.
 use Rattle.std.proofs.Common.{◌≡◌, refl, sym, ap, subst, ℕ, ◌+◌, ◌<◌, ◌≤◌, List, [], ◌∷◌, Option, Some, None, map, slice_get, slice_set, Contains, arith}
-use Rattle.delos_types.specs.Spaces.{SpaceMap}
 use Rattle.delos_types.specs.declared.entry.Entry.{Entry}
 use Rattle.legal_journal.specs.Law.{Law}
 use Rattle.legal_journal.specs.declared.events.Event.{Event}
@@ -11,7 +10,7 @@ use Rattle.engine_api.specs.declared.content.Content.TheVariants as content
 use Rattle.engine_api.specs.declared.content.Placed.{Placed}
 use Rattle.engine_api.specs.Items.{unpack}
 use Rattle.engine_api.specs.Packing.{alive_item, packed}
-use Rattle.replica_api.specs.Replica.{Saved}
+use Rattle.replica_api.specs.Replica.{Meaning}
 use Rattle.base_engine.specs.Node.{NodeView}
 use Rattle.script_text.specs.declared.line.Admin.TheVariants.{Alive}
 use Rattle.script_text.specs.declared.asks.NamedLine.{NamedLine}
@@ -54,7 +53,7 @@ module _ (law : Law) (old new : NodeView) (position : ℕ) (legal : IsLegal law 
         stands = stands_now law old.who told.synced new.seen e legal told.landed (content.Alive old.replica.origin position) told.says;
       }
 
-module _ (law : Law) (state : List Entry → SpaceMap → Type 0) (spells : List ℕ → Saved → Type 0) (run : MayRun law) (lines : List NamedLine) (home : ℕ → ℕ) (nodes : ℕ) (c : NodeCourse) (looks : List (Option Looked)) (n from i : ℕ) (line : NamedLine) (look : Looked) (seat seat' : SeatView) (desks : List Desk) (journal : List Event) (are : AreLines lines home nodes) (at : slice_get lines i ≡ Some line) (node : line.node ≡ n) (phase : line.phase ≡ c.phase) (asks_is : line.asks ≡ asks.Admin Alive) (was : NodeAt law state spells lines home nodes c looks n from i c.phase seat desks) (still : SealsNone n c.seen journal) (adds : ReportAdds n seat'.node.replica.cursor c.seen journal look) (does : Reports (record law { may = OwnWithin n law.may (sent_by desks) }) (node_of seat c.seen) (node_of seat' journal) look) (now : WorkerOk law state spells n journal seat' desks) where
+module _ (law : Law) (meaning : Meaning) (run : MayRun law) (lines : List NamedLine) (home : ℕ → ℕ) (nodes : ℕ) (c : NodeCourse) (looks : List (Option Looked)) (n from i : ℕ) (line : NamedLine) (look : Looked) (seat seat' : SeatView) (desks : List Desk) (journal : List Event) (are : AreLines lines home nodes) (at : slice_get lines i ≡ Some line) (node : line.node ≡ n) (phase : line.phase ≡ c.phase) (asks_is : line.asks ≡ asks.Admin Alive) (was : NodeAt law meaning lines home nodes c looks n from i c.phase seat desks) (still : SealsNone n c.seen journal) (adds : ReportAdds n seat'.node.replica.cursor c.seen journal look) (does : Reports (record law { may = OwnWithin n law.may (sent_by desks) }) (node_of seat c.seen) (node_of seat' journal) look) (now : WorkerOk law meaning n journal seat' desks) where
   abbrev then' : NodeCourse
   then' = advanced c n (map (λ g. g.cause) does.moves.goes.given) journal c.when
 
@@ -62,7 +61,7 @@ module _ (law : Law) (state : List Entry → SpaceMap → Type 0) (spells : List
   So = ReportsSo (node_of seat c.seen) (node_of seat' journal) does.others
 
   legal : IsLegal law journal
-  legal = worker_legal law state spells n journal seat' desks now
+  legal = worker_legal law meaning n journal seat' desks now
 
   not_yet : slice_get looks i ≡ Some None
   not_yet = was.waiting i line (omega arith) at node
@@ -158,7 +157,10 @@ module _ (law : Law) (state : List Entry → SpaceMap → Type 0) (spells : List
   tells : TellsOn lines looks' n seat.node.replica.cursor seat'.node.replica.cursor c.seen journal
   tells =
       tells_one law c.seen journal (more, does.moves.goes.spends.seen) legal lines looks looks' n (came_on lines looks n i line look at not_yet) run seat.node.replica.cursor seat'.node.replica.cursor
-      does.moves.goes.keeps.forward was.did.told (content.Alive n adds.position) (refl, behind, asked) adds.low (λ base up since stood. behind) adds.adds
+      does.moves.goes.keeps.forward was.did.told (content.Alive n adds.position) (refl, behind, asked) adds.low (λ early e p position up own among is told. absurd (apart position told)) adds.adds
+    where
+      apart : (position : ℕ) → content.Alive n adds.position ≡ content.Trim position → ⊥
+      apart position e = cc
 
   stood : (x : Looked) → So x → ReportedSo journal (tails then' line.phase) seat'.node.replica.cursor n x → HasToldSo journal n x
   stood (looked.Found after found) h r = tt
@@ -169,9 +171,9 @@ module _ (law : Law) (state : List Entry → SpaceMap → Type 0) (spells : List
   stood looked.Left h r = absurd h
   stood (looked.Trimmed trim) h r = tt
 
-  pub line_reported : LineWent law state spells lines home nodes c looks' n from (i + 1) journal seat' desks
+  pub line_reported : LineWent law meaning lines home nodes c looks' n from (i + 1) journal seat' desks
   line_reported =
-      line_told law state spells lines home nodes c looks n from i line Alive look seat seat' desks desks (none_taken desks) journal are at node phase asks_is was still does.others does.moves now none
+      line_told law meaning lines home nodes c looks n from i line Alive look seat seat' desks desks (none_taken desks) journal are at node phase asks_is was still does.others does.moves now none
       (paid_is look does.tells) (of_node look does.tells) (reported look does.tells) (none_left look does.tells)
       tells (stood look does.tells (reported look does.tells)) (λ trim is. absurd (subst So is does.tells))
       (λ position is. subst (IsCleanPoint journal) (sym (adds.is position is)) adds.clean)

@@ -1,13 +1,12 @@
 -- What is known of a node stays so, whatever others do.
 use Rattle.std.proofs.Common.{◌≡◌, ◌≢◌, refl, sym, ap, ◌∙◌, subst, ℕ, ◌<◌, Bool, List, [], ◌∷◌, ◌++◌, Option, Some, length, count_by, slice_get, Contains, arith, append-nil}
-use Rattle.delos_types.specs.Spaces.{SpaceMap}
 use Rattle.delos_types.specs.declared.entry.Entry.{Entry}
 use Rattle.delos_types.specs.declared.cause.Cause.{Cause}
 use Rattle.legal_journal.specs.Law.{Law}
 use Rattle.legal_journal.specs.declared.events.Event.{Event}
 use Rattle.legal_journal.specs.Journal.{IsLegal}
 use Rattle.legal_journal.specs.Turns.{AreOthers}
-use Rattle.replica_api.specs.Replica.{Saved}
+use Rattle.replica_api.specs.Replica.{Meaning}
 use Rattle.script_text.specs.declared.asks.NamedLine.{NamedLine}
 use Rattle.fitting_run.specs.Faults.{lacks_store}
 use Rattle.turn_scopes.specs.Beside.{AreBeside}
@@ -28,7 +27,7 @@ use Rattle.node_course.proofs.Counted.{failed_same, node_only, store_only}
 use Rattle.node_course.proofs.Events.{appended_same, faults_same, seals_same}
 use Rattle.node_course.proofs.Legal.{worker_within}
 use Rattle.node_course.proofs.Looks.{SameLooks, same_back, same_on}
-use Rattle.node_course.proofs.Keeping.{keeps_beside}
+use Rattle.node_course.proofs.Keeping.{asks_beside}
 use Rattle.node_course.proofs.Told.{told_still}
 use Rattle.node_course.proofs.Replacing.{further_same}
 use Rattle.node_course.proofs.Growing.{Grown, desk_same, ended_grows, grown_of, halted_grows, played_grows}
@@ -38,8 +37,8 @@ are_beside : (who : ℕ) (es : List Event) → AreOthers who es → AreBeside (�
 are_beside who [] h = tt
 are_beside who (e ∷ es) h = (h.0, are_beside who es h.1)
 
-module _ (law : Law) (state : List Entry → SpaceMap → Type 0) (spells : List ℕ → Saved → Type 0) (lines : List NamedLine) (home : ℕ → ℕ) (nodes : ℕ) (c : NodeCourse) (looks looks' : List (Option Looked)) (n from at done : ℕ) (more : List Event) (seat : SeatView) (desks : List Desk)
-    (others : AreOthers n more) (legal : IsLegal law (c.seen ++ more)) (size : length looks' ≡ length looks) (same : SameLooks lines looks looks' n) (was : NodeAt law state spells lines home nodes c looks n from at done seat desks) where
+module _ (law : Law) (meaning : Meaning) (lines : List NamedLine) (home : ℕ → ℕ) (nodes : ℕ) (c : NodeCourse) (looks looks' : List (Option Looked)) (n from at done : ℕ) (more : List Event) (seat : SeatView) (desks : List Desk)
+    (others : AreOthers n more) (legal : IsLegal law (c.seen ++ more)) (size : length looks' ≡ length looks) (same : SameLooks lines looks looks' n) (was : NodeAt law meaning lines home nodes c looks n from at done seat desks) where
   abbrev then' : NodeCourse
   then' = and_then c more
 
@@ -52,10 +51,10 @@ module _ (law : Law) (state : List Entry → SpaceMap → Type 0) (spells : List
   -- the node itself appended nothing more
   within : IsLegal (record law { may = OwnWithin n law.may (sent_by desks) }) (c.seen ++ more)
   within = legal_beside law (record law { may = OwnWithin n law.may (sent_by desks) }) refl (λ user. user ≢ n) (λ user e apart h. (h, λ is. absurd (apart is))) (λ user apart seen k legal free. free)
-      c.seen more (are_beside n more others) (worker_within law state spells n c.seen seat desks was.ok) legal
+      c.seen more (are_beside n more others) (worker_within law meaning n c.seen seat desks was.ok) legal
 
-  ok : WorkerOk law state spells n (c.seen ++ more) seat desks
-  ok = worker_stays law state spells n c.seen more seat desks was.ok within
+  ok : WorkerOk law meaning n (c.seen ++ more) seat desks
+  ok = worker_stays law meaning n c.seen more seat desks was.ok within
 
   appended_before : (e : Entry) → Contains (appended_by n (c.seen ++ more)) e → Contains (appended_by n c.seen) e
   appended_before e there = subst (λ es. Contains es e) (appended_same n c.seen more others) there
@@ -76,7 +75,7 @@ module _ (law : Law) (state : List Entry → SpaceMap → Type 0) (spells : List
       let lines_are = further_same n lines looks looks' size same in
       omega (arith, before, seals, lines_are))
       (told_still law c.seen (c.seen ++ more) (more, refl) legal lines looks looks' n (same_on lines looks looks' n same) was.did.told appended_before)
-      (keeps_beside n c.seen more others was.did.behind)
+      (asks_beside n c.seen more others was.did.behind)
 
   each : (s : ℕ) (d : Desk) → slice_get desks s ≡ Some d → DeskAt lines home then' n from at done s d
   each s d get =
@@ -95,7 +94,7 @@ module _ (law : Law) (state : List Entry → SpaceMap → Type 0) (spells : List
       (λ d is. (d, is, desk_same c then' seat.node.replica.cursor (session_in l.asks) d refl)) (was.played i l before get own)
 
   -- where it reports no more
-  pub node_stays_by : ReportsUpTo n seat.node.replica.cursor (c.seen ++ more) → NodeAt law state spells lines home nodes then' looks' n from at done seat desks
+  pub node_stays_by : ReportsUpTo n seat.node.replica.cursor (c.seen ++ more) → NodeAt law meaning lines home nodes then' looks' n from at done seat desks
   node_stays_by reports = record {
     ok = ok;
     did = did;
@@ -112,11 +111,11 @@ module _ (law : Law) (state : List Entry → SpaceMap → Type 0) (spells : List
   }
 
 -- nobody else reports for the node
-module _ (law : Law) (state : List Entry → SpaceMap → Type 0) (spells : List ℕ → Saved → Type 0) (run : MayRun law) (lines : List NamedLine) (home : ℕ → ℕ) (nodes : ℕ) (c : NodeCourse) (looks looks' : List (Option Looked)) (n from at done : ℕ) (more : List Event) (seat : SeatView) (desks : List Desk)
-    (others : AreOthers n more) (legal : IsLegal law (c.seen ++ more)) (size : length looks' ≡ length looks) (same : SameLooks lines looks looks' n) (was : NodeAt law state spells lines home nodes c looks n from at done seat desks) where
+module _ (law : Law) (meaning : Meaning) (run : MayRun law) (lines : List NamedLine) (home : ℕ → ℕ) (nodes : ℕ) (c : NodeCourse) (looks looks' : List (Option Looked)) (n from at done : ℕ) (more : List Event) (seat : SeatView) (desks : List Desk)
+    (others : AreOthers n more) (legal : IsLegal law (c.seen ++ more)) (size : length looks' ≡ length looks) (same : SameLooks lines looks looks' n) (was : NodeAt law meaning lines home nodes c looks n from at done seat desks) where
   reports : ReportsUpTo n seat.node.replica.cursor (c.seen ++ more)
   reports e p there among position is =
       was.reports e p (own_appended n c.seen e (subst (λ es. Contains es e) (appended_same n c.seen more others) (reported_by law law run (λ user x k. k) (c.seen ++ more) legal n position e p there among is))) among position is
 
-  pub node_stays : NodeAt law state spells lines home nodes (and_then c more) looks' n from at done seat desks
-  node_stays = node_stays_by law state spells lines home nodes c looks looks' n from at done more seat desks others legal size same was reports
+  pub node_stays : NodeAt law meaning lines home nodes (and_then c more) looks' n from at done seat desks
+  node_stays = node_stays_by law meaning lines home nodes c looks looks' n from at done more seat desks others legal size same was reports

@@ -1,7 +1,6 @@
 -- A line had its node append what the node tells of itself.
 use Rattle.std.proofs.Common.{◌≡◌, sym, ap, ◌∙◌, subst, ℕ, ◌+◌, ◌≤◌, false, List, [], ◌∷◌, ◌++◌, Option, Some, None, map, slice_get, slice_set, Contains, length, arith, append_assoc}
 use Rattle.std.proofs.lemmas.List.Elements.{Contains-push}
-use Rattle.delos_types.specs.Spaces.{SpaceMap}
 use Rattle.delos_types.specs.declared.cause.Cause.{Cause}
 use Rattle.delos_types.specs.declared.entry.Entry.{Entry}
 use Rattle.table_core.specs.declared.command.Found.{Found}
@@ -14,7 +13,7 @@ use Rattle.virtual_log.specs.declared.extend.Extension.{Extension}
 use Rattle.engine_api.specs.declared.content.Content.{Content}
 use Rattle.engine_api.specs.declared.content.Placed.{Placed}
 use Rattle.engine_api.specs.Items.{placed_from, unpack}
-use Rattle.replica_api.specs.Replica.{Saved}
+use Rattle.replica_api.specs.Replica.{Meaning}
 use Rattle.base_engine.specs.Holding.{held_stays}
 use Rattle.base_engine.specs.Trimming.{IsAppended}
 use Rattle.base_engine.proofs.Landing.{On, on_on}
@@ -81,7 +80,7 @@ no_read Alive after found h = h
 no_read Retire after found h = h
 no_read Trim after found h = h
 
-module _ (law : Law) (state : List Entry → SpaceMap → Type 0) (spells : List ℕ → Saved → Type 0) (lines : List NamedLine) (home : ℕ → ℕ) (nodes : ℕ) (c : NodeCourse) (looks : List (Option Looked)) (n from i : ℕ) (line : NamedLine) (admin : Admin) (look : Looked) (seat seat' : SeatView) (desks desks' : List Desk) (taken : IsAnswered desks desks') (journal : List Event) (are : AreLines lines home nodes) (at : slice_get lines i ≡ Some line) (node : line.node ≡ n) (phase : line.phase ≡ c.phase) (asks_is : line.asks ≡ asks.Admin admin) (was : NodeAt law state spells lines home nodes c looks n from i c.phase seat desks) (still : SealsNone n c.seen journal) (others : List Cause) (moves : Moves (record law { may = OwnWithin n law.may (sent_by desks) }) (node_of seat c.seen) (node_of seat' journal) others) (now : WorkerOk law state spells n journal seat' desks') where
+module _ (law : Law) (meaning : Meaning) (lines : List NamedLine) (home : ℕ → ℕ) (nodes : ℕ) (c : NodeCourse) (looks : List (Option Looked)) (n from i : ℕ) (line : NamedLine) (admin : Admin) (look : Looked) (seat seat' : SeatView) (desks desks' : List Desk) (taken : IsAnswered desks desks') (journal : List Event) (are : AreLines lines home nodes) (at : slice_get lines i ≡ Some line) (node : line.node ≡ n) (phase : line.phase ≡ c.phase) (asks_is : line.asks ≡ asks.Admin admin) (was : NodeAt law meaning lines home nodes c looks n from i c.phase seat desks) (still : SealsNone n c.seen journal) (others : List Cause) (moves : Moves (record law { may = OwnWithin n law.may (sent_by desks) }) (node_of seat c.seen) (node_of seat' journal) others) (now : WorkerOk law meaning n journal seat' desks') where
   abbrev then' : NodeCourse
   then' = advanced c n (map (λ g. g.cause) moves.goes.given) journal c.when
 
@@ -110,7 +109,7 @@ module _ (law : Law) (state : List Entry → SpaceMap → Type 0) (spells : List
     line_played = subst (PlayedSo lines then' c.phase seat'.node.replica.cursor n desks' looks' i line.phase) (sym asks_is)
         (look, set_same looks i (Some look) None not_yet, of_node, reported, left)
 
-    pub line_told : LineWent law state spells lines home nodes c looks' n from (i + 1) journal seat' desks'
+    pub line_told : LineWent law meaning lines home nodes c looks' n from (i + 1) journal seat' desks'
     line_told =
-        line_went law state spells lines home nodes c looks n from i line look seat seat' desks desks' taken journal are at node phase unlogged was others moves paid_is on own
+        line_went law meaning lines home nodes c looks n from i line look seat seat' desks desks' taken journal are at node phase unlogged was others moves paid_is on own
         (seals_played n c.seen journal lines looks i line look at node not_yet still was.did.seals) now tells stood trimmed clean high_read line_played

@@ -1,9 +1,7 @@
 -- What a node knows of its lines and sessions holds of the run.
 use Rattle.std.proofs.Common.{◌≡◌, refl, sym, ◌∙◌, subst, inl, ℕ, ◌<◌, ◌≤◌, List, [], Option, Some, slice_get, arith, append-nil}
-use Rattle.delos_types.specs.Spaces.{SpaceMap}
-use Rattle.delos_types.specs.declared.entry.Entry.{Entry}
 use Rattle.legal_journal.specs.Law.{Law}
-use Rattle.replica_api.specs.Replica.{Saved}
+use Rattle.replica_api.specs.Replica.{Meaning}
 use Rattle.script_text.specs.declared.asks.NamedLine.{NamedLine}
 use Rattle.turn_scopes.specs.Seats.{SeatView}
 use Rattle.node_lines.specs.declared.desk.Desk.{Desk}
@@ -19,7 +17,7 @@ use Rattle.node_course.proofs.Moments.{grows_not}
 use Rattle.node_course.proofs.Parts.{moment_is, run_legal, run_seen}
 use Rattle.node_course.proofs.Growing.{DeskGrew, Grown, ended_grows, halted_grows, played_grows}
 
-module _ (law : Law) (state : List Entry → SpaceMap → Type 0) (spells : List ℕ → Saved → Type 0) (lines : List NamedLine) (home : ℕ → ℕ) (nodes : ℕ) (run : NodeCourse) (looks : List (Option Looked)) (courses : ℕ → NodeCourse) (join : AreJoined law lines home nodes run looks courses) (n from at done : ℕ) (seat : SeatView) (desks : List Desk) (least : 1 ≤ n) (most : n ≤ nodes) (was : NodeAt law state spells lines home nodes (courses n) looks n from at done seat desks) where
+module _ (law : Law) (meaning : Meaning) (lines : List NamedLine) (home : ℕ → ℕ) (nodes : ℕ) (run : NodeCourse) (looks : List (Option Looked)) (courses : ℕ → NodeCourse) (join : AreJoined law lines home nodes run looks courses) (n from at done : ℕ) (seat : SeatView) (desks : List Desk) (least : 1 ≤ n) (most : n ≤ nodes) (was : NodeAt law meaning lines home nodes (courses n) looks n from at done seat desks) where
   abbrev c : NodeCourse
   c = courses n
 

@@ -1,5 +1,5 @@
 -- What a node told of itself lines asked it to tell, still as its course goes on.
-use Rattle.std.proofs.Common.{◌≡◌, sym, ap, subst, ◌⊎◌, inl, inr, ⊎_elim, ℕ, ◌+◌, ◌<◌, ◌≤◌, List, [], ◌∷◌, Option, Contains, arith}
+use Rattle.std.proofs.Common.{◌≡◌, sym, ap, ◌∙◌, subst, ◌⊎◌, inl, inr, ⊎_elim, ℕ, ◌+◌, ◌<◌, ◌≤◌, List, [], ◌∷◌, Option, Contains, arith}
 use Rattle.delos_types.specs.declared.entry.Entry.{Entry}
 use Rattle.legal_journal.specs.Law.{Law}
 use Rattle.legal_journal.specs.declared.events.Event.{Event}
@@ -10,7 +10,6 @@ use Rattle.engine_api.specs.declared.content.Content.{Content}
 use Rattle.engine_api.specs.declared.content.Content.TheVariants as content
 use Rattle.engine_api.specs.declared.content.Placed.{Placed}
 use Rattle.engine_api.specs.Items.{unpack}
-use Rattle.turn_scopes.specs.Alone.{OwnSince}
 use Rattle.script_text.specs.declared.line.Admin.{Admin}
 use Rattle.script_text.specs.declared.asks.NamedLine.{NamedLine}
 use Rattle.node_lines.specs.declared.lines.Looked.{Looked}
@@ -21,9 +20,9 @@ use Rattle.run_laws.proofs.Members.{Among, all-at, among-map, contained-among}
 use Rattle.node_course.specs.Moments.{NodeCourse, moment, tails}
 use Rattle.node_course.specs.Played.{Came}
 use Rattle.node_course.specs.Reporting.{StandsThere}
-use Rattle.node_course.specs.Telling.{AreBehind, AreTold, AskedFor, HasToldSo, IsBehind, IsTrim, KeepsBehind, ToldSo}
+use Rattle.node_course.specs.Telling.{AreTold, AskedFor, AsksBehind, HasToldSo, IsTrim, ToldSo, WasHeld}
 use Rattle.node_course.proofs.Looks.{CameOn}
-use Rattle.node_course.proofs.Keeping.{behind_command, keeps_on}
+use Rattle.node_course.proofs.Keeping.{asks_on}
 use Rattle.node_course.proofs.Stands.{behind_on, front_on, stands_on, trim_rises}
 use Rattle.node_course.proofs.Growing.{Grown, legal_then}
 
@@ -75,7 +74,7 @@ told_command lines looks journal n cursor (content.Trim position) h = absurd h
 pub record TellsOn (lines : List NamedLine) (looks' : List (Option Looked)) (n cursor cursor' : ℕ) (old new : List Event) : Type 0 where
   pub told : AreTold lines looks' n new
   pub own : ReportsUpTo n cursor old → ReportsUpTo n cursor' new
-  pub stays : KeepsBehind n old → KeepsBehind n new
+  pub stays : AsksBehind n old → AsksBehind n new
 
 module _ (law : Law) (old new : List Event) (g : Grows old new) (legal : IsLegal law new) (lines : List NamedLine) (looks looks' : List (Option Looked)) (n : ℕ) (on : CameOn lines looks looks' n) where
   told_on : (c : Content) → ToldSo lines looks n old c → ToldSo lines looks' n new c
@@ -90,29 +89,33 @@ module _ (law : Law) (old new : List Event) (g : Grows old new) (legal : IsLegal
 
   module _ (run : MayRun law) (cursor cursor' : ℕ) (up : cursor ≤ cursor') (told : AreTold lines looks n old) where
     tells_by : (P : Entry → Type 0) → ((e : Entry) (p : Placed) → P e → Contains (unpack 0 e) p → ToldSo lines looks' n new p.content × SaysUpTo cursor' p.content)
-        → ((base : List Event) → Grows old base → OwnSince n base new → AreBehind base → (e : Entry) (p : Placed) → P e → Contains (unpack 0 e) p → IsBehind new p.content) → OwnAdds n P old new → TellsOn lines looks' n cursor cursor' old new
-    tells_by P each stands adds = record {
+        → ((early : List Event) (e : Entry) (p : Placed) (position : ℕ) → Grows early new → Contains (appended_by n early) e → P e → Contains (unpack 0 e) p → p.content ≡ content.Trim position → Contains (appended_by n old) e ⊎ WasHeld early position)
+        → OwnAdds n P old new → TellsOn lines looks' n cursor cursor' old new
+    tells_by P each asks adds = record {
       told = λ e p at among. ⊎_elim (λ (was : Contains (appended_by n old) e). told_on p.content (told e p was among)) (λ (now : P e). (each e p now among).0) (adds e at);
       own = λ was e p at among position is. ⊎_elim
           (λ (before : Contains (appended_by n old) e). let low = was e p (own_appended n old e before) among position is in omega (arith, low, up))
           (λ (now : P e). subst (SaysUpTo cursor') is (each e p now among).1)
           (adds e (reported_by law law run (λ user x k. k) new legal n position e p at among is));
-      stays = keeps_on law n old new g legal P adds stands;
+      stays = asks_on n old new P g adds asks;
     }
 
     pub tells_commands : OwnAdds n IsOfSessions old new → TellsOn lines looks' n cursor cursor' old new
-    tells_commands adds = tells_by IsOfSessions (λ e p all among. told_command lines looks' new n cursor' p.content (command_is e p all among)) (λ base up since was e p all among. behind_command new p.content (command_is e p all among)) adds
+    tells_commands adds = tells_by IsOfSessions (λ e p all among. told_command lines looks' new n cursor' p.content (command_is e p all among))
+        (λ early e p position grows own all among is. absurd (subst IsCommand is (command_is e p all among))) adds
 
-    pub tells_one : (c : Content) → ToldSo lines looks' n new c → SaysUpTo cursor' c → ((base : List Event) → Grows old base → OwnSince n base new → AreBehind base → IsBehind new c) → OwnAdds n (λ e. IsOfSessions e ⊎ SaysAlone c e) old new → TellsOn lines looks' n cursor cursor' old new
-    tells_one c so says stands adds = tells_by (λ e. IsOfSessions e ⊎ SaysAlone c e) each behind adds
+    pub tells_one : (c : Content) → ToldSo lines looks' n new c → SaysUpTo cursor' c
+        → ((early : List Event) (e : Entry) (p : Placed) (position : ℕ) → Grows early new → Contains (appended_by n early) e → Contains (unpack 0 e) p → p.content ≡ content.Trim position → c ≡ content.Trim position → Contains (appended_by n old) e ⊎ WasHeld early position)
+        → OwnAdds n (λ e. IsOfSessions e ⊎ SaysAlone c e) old new → TellsOn lines looks' n cursor cursor' old new
+    tells_one c so says asks adds = tells_by (λ e. IsOfSessions e ⊎ SaysAlone c e) each held adds
       where
         each : (e : Entry) (p : Placed) → IsOfSessions e ⊎ SaysAlone c e → Contains (unpack 0 e) p → ToldSo lines looks' n new p.content × SaysUpTo cursor' p.content
         each e p (inl all) among = told_command lines looks' new n cursor' p.content (command_is e p all among)
         each e p (inr alone) among = let is = sym (alone_is c e p alone among) in (subst (ToldSo lines looks' n new) is so, subst (SaysUpTo cursor') is says)
 
-        behind : (base : List Event) → Grows old base → OwnSince n base new → AreBehind base → (e : Entry) (p : Placed) → IsOfSessions e ⊎ SaysAlone c e → Contains (unpack 0 e) p → IsBehind new p.content
-        behind base up since was e p (inl all) among = behind_command new p.content (command_is e p all among)
-        behind base up since was e p (inr alone) among = subst (IsBehind new) (sym (alone_is c e p alone among)) (stands base up since was)
+        held : (early : List Event) (e : Entry) (p : Placed) (position : ℕ) → Grows early new → Contains (appended_by n early) e → IsOfSessions e ⊎ SaysAlone c e → Contains (unpack 0 e) p → p.content ≡ content.Trim position → Contains (appended_by n old) e ⊎ WasHeld early position
+        held early e p position grows own (inl all) among is = absurd (subst IsCommand is (command_is e p all among))
+        held early e p position grows own (inr alone) among is = asks early e p position grows own among is (sym (alone_is c e p alone among) ∙ is)
 
 -- What lines came to
 

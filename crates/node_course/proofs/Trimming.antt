@@ -1,12 +1,9 @@
 -- A line had its node trim the log.
-use Rattle.std.proofs.Common.{◌≡◌, refl, sym, ap, ◌∙◌, subst, ◌⊎◌, inl, inr, ⊎_elim, Contains, ℕ, ◌+◌, ◌<◌, ◌≤◌, List, [], ◌∷◌, Option, Some, None, map, slice_get, slice_set, arith, append-nil}
-use Rattle.delos_types.specs.Spaces.{SpaceMap}
+use Rattle.std.proofs.Common.{◌≡◌, refl, sym, ap, ◌∙◌, subst, ◌⊎◌, inl, inr, ⊎_elim, Contains, ℕ, ◌+◌, ◌<◌, ◌≤◌, List, [], ◌∷◌, Option, Some, None, length, map, slice_get, slice_set, arith}
 use Rattle.delos_types.specs.declared.entry.Entry.{Entry}
 use Rattle.legal_journal.specs.Law.{Law}
 use Rattle.legal_journal.specs.declared.events.Event.{Event}
 use Rattle.legal_journal.specs.Journal.{IsLegal, state_of, tail_of}
-use Rattle.journal_laws.specs.Changes.{Adds, appended}
-use Rattle.journal_laws.proofs.Changes.{held_appended}
 use Rattle.virtual_log.specs.Sealing.{SealsNone}
 use Rattle.virtual_log.specs.declared.extend.Extension.{Extension}
 use Rattle.engine_api.specs.declared.content.Content.{Content}
@@ -16,34 +13,31 @@ use Rattle.engine_api.specs.Items.{unpack}
 use Rattle.engine_api.specs.Acted.{unpack_all}
 use Rattle.engine_api.specs.Members.{least_position}
 use Rattle.engine_api.specs.Packing.{packed, trim_item}
-use Rattle.replica_api.specs.Replica.{Saved}
+use Rattle.replica_api.specs.Replica.{Meaning}
 use Rattle.script_text.specs.declared.line.Admin.TheVariants.{Trim}
 use Rattle.script_text.specs.declared.asks.NamedLine.{NamedLine}
 use Rattle.script_text.specs.declared.asks.Asks.TheVariants as asks
-use Rattle.turn_scopes.specs.Alone.{OwnSince}
 use Rattle.turn_scopes.specs.Seats.{SeatView, node_of}
-use Rattle.node_lines.specs.Measuring.{IsCleanPoint}
 use Rattle.node_lines.specs.declared.desk.Desk.{Desk}
 use Rattle.node_lines.specs.declared.lines.Looked.{Looked}
 use Rattle.node_lines.specs.declared.lines.Looked.TheVariants as looked
 use Rattle.node_lines.specs.Trimming.{HasTrimmed, TrimsLog, TrimsSo}
-use Rattle.node_lines.specs.Workers.{Grows, HasNotLeft, IsCommand, IsOfSessions, IsReported, MayRun, OwnWithin, SaysAlone, TrimAdds, WorkerOk, sent_by}
+use Rattle.node_lines.specs.Workers.{Grows, HasNotLeft, IsCommand, IsHeldReport, IsOfSessions, MayRun, OwnWithin, SaysAlone, TrimAdds, WorkerOk, appended_by, sent_by}
 use Rattle.node_course.specs.Script.{AreLines}
 use Rattle.node_course.specs.Moments.{NodeCourse, moment, tails}
 use Rattle.node_course.specs.Played.{Came}
 use Rattle.node_course.specs.Desks.{IsOfNode}
 use Rattle.node_course.specs.Leaving.{LeftSo}
 use Rattle.node_course.specs.Reporting.{ReportedSo, StandsThere}
-use Rattle.node_course.specs.Telling.{AreBehind, HasToldSo, IsAskedBehind, IsBehind, IsLowest, IsTrim}
+use Rattle.node_course.specs.Telling.{HasToldSo, IsLowest, IsTrim, WasHeld}
 use Rattle.node_course.specs.Workers.{LineWent, NodeAt}
 use Rattle.node_course.proofs.Legal.{worker_legal}
-use Rattle.node_course.proofs.Keeping.{adds_from}
-use Rattle.node_course.proofs.Stands.{behind_so, in_other, stands_on}
+use Rattle.node_course.proofs.Keeping.{moments_or, own_upto}
+use Rattle.node_course.proofs.Stands.{stands_on}
 use Rattle.node_course.proofs.Told.{TellsOn, alone_is, command_is, stand_on, tells_one}
 use Rattle.node_course.proofs.Looks.{came_cases, came_on}
-use Rattle.node_course.proofs.Moments.{grown_legal, moment_on, moment_past, moment_seen}
-use Rattle.node_lines.proofs.Own.{all_adds, stays_on}
-use Rattle.node_lines.proofs.Cleaning.{clean_none}
+use Rattle.node_course.proofs.Moments.{moment_on, moment_past, moment_seen}
+use Rattle.node_lines.proofs.Own.{stays_on}
 use Rattle.node_course.proofs.Lowest.{lowest_is}
 use Rattle.node_course.proofs.Lines.{at_get}
 use Rattle.node_course.proofs.Turning.{not_left}
@@ -51,7 +45,7 @@ use Rattle.node_course.proofs.Advance.{advanced, failed_of}
 use Rattle.node_course.proofs.Playing.{none_taken}
 use Rattle.node_course.proofs.Telling.{line_told, stands_now}
 
-module _ (law : Law) (state : List Entry → SpaceMap → Type 0) (spells : List ℕ → Saved → Type 0) (run : MayRun law) (lines : List NamedLine) (home : ℕ → ℕ) (nodes : ℕ) (c : NodeCourse) (looks : List (Option Looked)) (n from i : ℕ) (line : NamedLine) (look : Looked) (seat seat' : SeatView) (desks : List Desk) (journal : List Event) (are : AreLines lines home nodes) (at : slice_get lines i ≡ Some line) (node : line.node ≡ n) (phase : line.phase ≡ c.phase) (asks_is : line.asks ≡ asks.Admin Trim) (was : NodeAt law state spells lines home nodes c looks n from i c.phase seat desks) (still : SealsNone n c.seen journal) (adds : TrimAdds n c.seen journal) (does : TrimsLog (record law { may = OwnWithin n law.may (sent_by desks) }) (node_of seat c.seen) (node_of seat' journal) look) (now : WorkerOk law state spells n journal seat' desks) where
+module _ (law : Law) (meaning : Meaning) (run : MayRun law) (lines : List NamedLine) (home : ℕ → ℕ) (nodes : ℕ) (c : NodeCourse) (looks : List (Option Looked)) (n from i : ℕ) (line : NamedLine) (look : Looked) (seat seat' : SeatView) (desks : List Desk) (journal : List Event) (are : AreLines lines home nodes) (at : slice_get lines i ≡ Some line) (node : line.node ≡ n) (phase : line.phase ≡ c.phase) (asks_is : line.asks ≡ asks.Admin Trim) (was : NodeAt law meaning lines home nodes c looks n from i c.phase seat desks) (still : SealsNone n c.seen journal) (adds : TrimAdds n c.seen journal) (does : TrimsLog (record law { may = OwnWithin n law.may (sent_by desks) }) (node_of seat c.seen) (node_of seat' journal) look) (now : WorkerOk law meaning n journal seat' desks) where
   abbrev then' : NodeCourse
   then' = advanced c n (map (λ g. g.cause) does.moves.goes.given) journal c.when
 
@@ -59,7 +53,7 @@ module _ (law : Law) (state : List Entry → SpaceMap → Type 0) (spells : List
   So = TrimsSo (node_of seat c.seen) (node_of seat' journal) does.others
 
   legal : IsLegal law journal
-  legal = worker_legal law state spells n journal seat' desks now
+  legal = worker_legal law meaning n journal seat' desks now
 
   not_yet : slice_get looks i ≡ Some None
   not_yet = was.waiting i line (omega arith) at node
@@ -118,51 +112,25 @@ module _ (law : Law) (state : List Entry → SpaceMap → Type 0) (spells : List
   stood looked.Left h = absurd h
   stood (looked.Trimmed trim) h = tt
 
-  -- Where nobody else has had events since a moment at which what was told stood behind that, what it asks for does too.
-  module _ (base : List Event) (up : Grows c.seen base) (since : OwnSince n base journal) (was_behind : AreBehind base) where
-    base_legal : IsLegal law base
-    base_legal = grown_legal law base journal (since.more, since.seen) legal
-
-    added : Adds (λ e. IsOfSessions e ⊎ SaysAlone (content.Trim adds.position) e) base journal
-    added = all_adds n (λ e. IsOfSessions e ⊎ SaysAlone (content.Trim adds.position) e) base journal since
-        (adds_from n (λ e. IsOfSessions e ⊎ SaysAlone (content.Trim adds.position) e) c.seen base journal up adds.adds)
-
-    none_alive : (e : Entry) (p : Placed) (k position : ℕ) → Contains (unpack 0 e) p → p.content ≡ content.Alive k position → IsOfSessions e ⊎ SaysAlone (content.Trim adds.position) e → ⊥
-    none_alive e p k position among is (inl all) = subst IsCommand is (command_is e p all among)
-    none_alive e p k position among is (inr alone) = apart (sym (alone_is (content.Trim adds.position) e p alone among) ∙ is)
-      where
-        apart : content.Trim adds.position ≡ content.Alive k position → ⊥
-        apart e = cc
-
-    -- what a node has reported was clean then
-    was_clean : (position : ℕ) → IsReported journal position → IsCleanPoint base position
-    was_clean position (inl none) = subst (IsCleanPoint base) (sym none) (clean_none base)
-    was_clean position (inr h) =
-        let s = h.1 in
-        ⊎_elim
-        (λ (early : Contains (appended base) s.entry). (subst (IsBehind base) s.is (was_behind s.entry s.placed early s.among)).clean)
-        (λ (late : IsOfSessions s.entry ⊎ SaysAlone (content.Trim adds.position) s.entry). absurd (none_alive s.entry s.placed h.0 position s.among s.is late))
-        (added s.entry s.appended_is)
-
-    clean : IsCleanPoint base adds.position
-    clean = was_clean adds.position adds.reported
-
-    -- No entry below the position says so: those that did before stand behind it, and what it asks for now wasn't there yet.
-    none_below : (e : Entry) (p : Placed) (k : ℕ) → k < adds.position → slice_get clean.log k ≡ Some e → Contains (unpack 0 e) p → p.content ≡ content.Trim adds.position → ⊥
-    none_below e p k early stands there is =
-        let held = held_appended law base k e base_legal (clean.front k e stands) in
-        let b = subst (IsBehind base) is (was_behind e p held there) in
-        b.behind k e p early (in_other law base base [] (sym (append-nil base)) base_legal clean.log b.clean.log clean.front b.clean.front k e stands (omega (arith, early, b.clean.within))) there is
-
-    behind : IsAskedBehind journal adds.position
-    behind =
-        behind_so law base journal since.more since.seen legal adds.position (content.Trim adds.position)
-        (record { clean = clean; behind = λ k e p early stands there is. none_below e p k early stands there is })
+  -- whenever it had begun to ask for it, the log had held a report of as much
+  asks_behind : (early : List Event) (e : Entry) (p : Placed) (position : ℕ) → Grows early journal → Contains (appended_by n early) e → Contains (unpack 0 e) p → p.content ≡ content.Trim position → content.Trim adds.position ≡ content.Trim position
+      → Contains (appended_by n c.seen) e ⊎ WasHeld early position
+  asks_behind early e p position up own among is told = ⊎_elim
+      (λ (low : Grows early adds.before). ⊎_elim
+      (λ (was : Contains (appended_by n c.seen) e). inl was)
+      (λ (all : IsOfSessions e). absurd (subst IsCommand is (command_is e p all among)))
+      (adds.none e (own_upto n early adds.before low e own)))
+      (λ (high : Grows adds.before early × (length adds.before < length early)).
+      inr (record { before = adds.before; grows = high.0; earlier = high.1; held = subst (IsHeldReport adds.before) (same told) adds.held }))
+      (moments_or early adds.before journal up adds.later)
+    where
+      same : content.Trim adds.position ≡ content.Trim position → adds.position ≡ position
+      same e = cc
 
   tells : TellsOn lines looks' n seat.node.replica.cursor seat'.node.replica.cursor c.seen journal
   tells =
       tells_one law c.seen journal (does.moves.goes.spends.more, does.moves.goes.spends.seen) legal lines looks looks' n (came_on lines looks n i line look at not_yet) run seat.node.replica.cursor seat'.node.replica.cursor
-      does.moves.goes.keeps.forward was.did.told (content.Trim adds.position) adds.reported tt behind adds.adds
+      does.moves.goes.keeps.forward was.did.told (content.Trim adds.position) adds.reported tt asks_behind adds.adds
 
   -- the node hadn't left, and didn't
   stays : HasNotLeft n journal
@@ -218,8 +186,8 @@ module _ (law : Law) (state : List Entry → SpaceMap → Type 0) (spells : List
         stands = stands_now law seat.who h.1.synced journal (packed seat.node.replica.origin (trim_item h.1.position ∷ [])) legal h.1.landed (content.Trim h.1.position) h.1.says;
       }
 
-  pub line_trimmed : LineWent law state spells lines home nodes c looks' n from (i + 1) journal seat' desks
+  pub line_trimmed : LineWent law meaning lines home nodes c looks' n from (i + 1) journal seat' desks
   line_trimmed =
-      line_told law state spells lines home nodes c looks n from i line Trim look seat seat' desks desks (none_taken desks) journal are at node phase asks_is was still does.others does.moves now none
+      line_told law meaning lines home nodes c looks n from i line Trim look seat seat' desks desks (none_taken desks) journal are at node phase asks_is was still does.others does.moves now none
       (paid_is look does.trims) (of_node look does.trims) (none_reported look does.trims) (none_left look does.trims)
       tells (stood look does.trims) trimmed (λ position is. absurd (subst So is does.trims))

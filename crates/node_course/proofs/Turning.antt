@@ -2,8 +2,6 @@
 use Rattle.std.proofs.Common.{◌≡◌, sym, ap, ◌∙◌, subst, inr, ⊎_elim, ◌≢◌, ℕ, zero, suc, ◌<◌, ◌≤◌, ◌==◌, Bool, true, false, not, List, [], ◌∷◌, Option, Some, None, slice_get, Contains, arith, eq-eqb}
 use Rattle.std.specs.List.{list_all}
 use Rattle.std.proofs.lemmas.Bool.{and_parts, cases_lt}
-use Rattle.delos_types.specs.Spaces.{SpaceMap}
-use Rattle.delos_types.specs.declared.entry.Entry.{Entry}
 use Rattle.legal_journal.specs.Law.{Law}
 use Rattle.legal_journal.specs.declared.events.Event.{Event}
 use Rattle.legal_journal.specs.Journal.{IsLegal}
@@ -11,7 +9,7 @@ use Rattle.journal_laws.specs.Changes.{Frees, TrimsUpTo}
 use Rattle.journal_laws.proofs.Changes.{raised_free}
 use Rattle.engine_api.specs.Acted.{unpack_all}
 use Rattle.engine_api.specs.Members.{has_left, position_of}
-use Rattle.replica_api.specs.Replica.{Saved}
+use Rattle.replica_api.specs.Replica.{Meaning}
 use Rattle.turn_scopes.specs.Floors.{FloorIs}
 use Rattle.log_laws.proofs.Membership.{least_upto}
 use Rattle.script_text.specs.declared.line.Admin.TheVariants.{Retire}
@@ -100,7 +98,7 @@ module _ (law : Law) (nodes : ℕ) (is : FloorIs law.floor nodes) (seen : List E
         omega (arith, above, low))
         (raised_free law seen trim legal h)
 
-module _ (law : Law) (state : List Entry → SpaceMap → Type 0) (spells : List ℕ → Saved → Type 0) (run : MayRun law) (lines : List NamedLine) (home : ℕ → ℕ) (nodes : ℕ) (c : NodeCourse) (looks : List (Option Looked)) (n from at done : ℕ) (seat : SeatView) (desks : List Desk) (is : FloorIs law.floor nodes) (w : NodeAt law state spells lines home nodes c looks n from at done seat desks) where
+module _ (law : Law) (meaning : Meaning) (run : MayRun law) (lines : List NamedLine) (home : ℕ → ℕ) (nodes : ℕ) (c : NodeCourse) (looks : List (Option Looked)) (n from at done : ℕ) (seat : SeatView) (desks : List Desk) (is : FloorIs law.floor nodes) (w : NodeAt law meaning lines home nodes c looks n from at done seat desks) where
   abbrev can : 1 ≤ n → n ≤ nodes → HasNotLeft n c.seen → CanPlay n c.seen seat
   can least most stays = record {
     high = trims_low law nodes is c.seen w.did.legal n least most seat.node.replica.cursor stays w.reports;

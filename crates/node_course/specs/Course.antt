@@ -18,7 +18,7 @@ use Rattle.node_course.specs.Moments.{NodeCourse, moment, at_node}
 use Rattle.node_course.specs.Played.{Came, went_further}
 use Rattle.node_course.specs.Replacing.{Replaced}
 use Rattle.node_course.specs.Behind.{ReportsHold}
-use Rattle.node_course.specs.Telling.{AreTold, HasToldSo, IsTrim, KeepsBehind}
+use Rattle.node_course.specs.Telling.{AreTold, HasToldSo, AsksBehind, IsTrim}
 
 -- The course of node n: each moment begins the next, and what the node appended by then lines of earlier phases ask; each fault that
 -- came to it had an event of its own; what its lines did to the chain; and what it told of itself. `looks` is what each line's own
@@ -39,8 +39,8 @@ pub record CourseOk (law : Law) (lines : List NamedLine) (nodes n : ℕ) (c : No
   pub seals : faults_of n c.seen ≡ [] → own_seals n c.seen ≤ went_further n lines looks
   -- what it told of itself lines had it tell, and what those lines came to stood in the log as the next phase began
   pub told : AreTold lines looks n c.seen
-  -- all that was told stands behind what it tells, as long as nobody else has events
-  pub behind : KeepsBehind n c.seen
+  -- whenever it had begun to ask for a trim, the log had held a report of as much
+  pub behind : AsksBehind n c.seen
   pub stand : (i : ℕ) (l : NamedLine) (look : Looked) → Came lines looks n i l look → HasToldSo (moment c (l.phase + 1)) n look
   -- what comes behind its reports stands at them or above
   pub reports : ReportsHold lines looks n c

@@ -12,7 +12,6 @@ use Rattle.engine_api.specs.Items.{unpack}
 use Rattle.engine_api.specs.Acted.{unpack_all}
 use Rattle.engine_api.specs.Members.{least_position}
 use Rattle.base_engine.specs.Reading.{IsFront}
-use Rattle.turn_scopes.specs.Alone.{OwnSince}
 use Rattle.script_text.specs.declared.line.Admin.{Admin}
 use Rattle.script_text.specs.declared.line.Admin.TheVariants.{Alive, Retire}
 use Rattle.script_text.specs.declared.asks.NamedLine.{NamedLine}
@@ -20,7 +19,7 @@ use Rattle.script_text.specs.declared.asks.Asks.TheVariants as asked
 use Rattle.node_lines.specs.declared.lines.Looked.{Looked}
 use Rattle.node_lines.specs.declared.lines.Looked.TheVariants as looks_of
 use Rattle.node_lines.specs.Measuring.{IsCleanPoint}
-use Rattle.node_lines.specs.Workers.{IsReported, appended_by}
+use Rattle.node_lines.specs.Workers.{Grows, IsHeldReport, IsReported, appended_by}
 use Rattle.node_course.specs.Moments.{NodeCourse, moment, tails}
 use Rattle.node_course.specs.Played.{Came}
 use Rattle.node_course.specs.Reporting.{StandsThere}
@@ -80,9 +79,17 @@ IsBehind journal (content.Trim n) = IsAskedBehind journal n
 abbrev pub AreBehind : List Event → Type 0
 AreBehind journal = (e : Entry) (p : Placed) → Contains (appended journal) e → Contains (unpack 0 e) p → IsBehind journal p.content
 
--- so it is where it was at some moment, and nobody but the node had events since
-abbrev pub KeepsBehind : ℕ → List Event → Type 0
-KeepsBehind n journal = (base : List Event) → OwnSince n base journal → AreBehind base → AreBehind journal
+-- at an earlier moment than this one the log held a report of so much
+pub record WasHeld (journal : List Event) (position : ℕ) : Type 0 where
+  pub before : List Event
+  pub grows : Grows before journal
+  pub earlier : length before < length journal
+  pub held : IsHeldReport before position
+
+-- by each moment at which the node had begun to ask for a trim, the log had held a report of as much
+abbrev pub AsksBehind : ℕ → List Event → Type 0
+AsksBehind n journal =
+    (early : List Event) (e : Entry) (p : Placed) (position : ℕ) → Grows early journal → Contains (appended_by n early) e → Contains (unpack 0 e) p → p.content ≡ content.Trim position → WasHeld early position
 
 -- What its lines came to
 

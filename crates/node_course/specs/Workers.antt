@@ -1,9 +1,8 @@
 -- What is known of a node with its sessions, from line to line, over what it has seen.
 use Rattle.std.specs.Prelude.{◌≡◌, ℕ, ◌+◌, ◌<◌, ◌≤◌, ◌^◌, min, List, [], ◌∷◌, count_by, slice_get, Option, Some, None}
 use Rattle.std.specs.List.{AllByRecursion}
-use Rattle.delos_types.specs.Spaces.{SpaceMap}
 use Rattle.delos_types.specs.declared.entry.Entry.{Entry}
-use Rattle.replica_api.specs.Replica.{Saved}
+use Rattle.replica_api.specs.Replica.{Meaning}
 use Rattle.table_core.specs.Spelling.{IsSpellable, command_length}
 use Rattle.engine_api.specs.Packing.{packed, session_item, alive_item, leave_item, trim_item}
 use Rattle.script_text.specs.declared.line.Admin.TheVariants.{Extend, Alive, Retire, Trim}
@@ -27,8 +26,8 @@ use Rattle.node_course.specs.Desks.{DeskAt, PlayedSo}
 
 -- Of node n: its lines up to `at` were played, of which those of the present phase begin at `from`. The phases below `done` have
 -- ended there.
-pub record NodeAt (law : Law) (state : List Entry → SpaceMap → Type 0) (spells : List ℕ → Saved → Type 0) (lines : List NamedLine) (home : ℕ → ℕ) (nodes : ℕ) (c : NodeCourse) (looks : List (Option Looked)) (n from at done : ℕ) (seat : SeatView) (desks : List Desk) : Type 0 where
-  pub ok : WorkerOk law state spells n c.seen seat desks
+pub record NodeAt (law : Law) (meaning : Meaning) (lines : List NamedLine) (home : ℕ → ℕ) (nodes : ℕ) (c : NodeCourse) (looks : List (Option Looked)) (n from at done : ℕ) (seat : SeatView) (desks : List Desk) : Type 0 where
+  pub ok : WorkerOk law meaning n c.seen seat desks
   pub did : CourseOk law lines nodes n c looks
   pub nodes_is : seat.node.nodes ≡ nodes
   pub order : from ≤ at
@@ -46,8 +45,8 @@ pub record NodeAt (law : Law) (state : List Entry → SpaceMap → Type 0) (spel
   pub stores : min (failed_looks (lacks_store n) lines looks + count_by (λ f. lacks_store n f.node f.cause) c.faults) most_faults ≤ min seat.node.replica.faults most_faults
 
 -- It waits between two phases, the lines of the next one beginning at `from`.
-pub record Rests (law : Law) (state : List Entry → SpaceMap → Type 0) (spells : List ℕ → Saved → Type 0) (lines : List NamedLine) (home : ℕ → ℕ) (nodes : ℕ) (c : NodeCourse) (looks : List (Option Looked)) (n from done : ℕ) (seat : SeatView) (desks : List Desk) : Type 0 where
-  pub node : NodeAt law state spells lines home nodes c looks n from from done seat desks
+pub record Rests (law : Law) (meaning : Meaning) (lines : List NamedLine) (home : ℕ → ℕ) (nodes : ℕ) (c : NodeCourse) (looks : List (Option Looked)) (n from done : ℕ) (seat : SeatView) (desks : List Desk) : Type 0 where
+  pub node : NodeAt law meaning lines home nodes c looks n from from done seat desks
   pub none_given : seat.node.outbox.given ≡ []
 
 -- Nothing was asked at the node, and nothing is on its way there.
@@ -59,18 +58,18 @@ pub record HasNotBegun (seat : SeatView) (desks : List Desk) : Type 0 where
   pub stopped : (s : ℕ) (d : Desk) → slice_get desks s ≡ Some d → d.stopped ≡ None
 
 -- The node's course went on by a line of its own, to what the node has seen by now.
-pub record LineWent (law : Law) (state : List Entry → SpaceMap → Type 0) (spells : List ℕ → Saved → Type 0) (lines : List NamedLine) (home : ℕ → ℕ) (nodes : ℕ) (c : NodeCourse) (looks : List (Option Looked)) (n from at : ℕ) (journal : List Event) (seat : SeatView) (desks : List Desk) : Type 0 where
+pub record LineWent (law : Law) (meaning : Meaning) (lines : List NamedLine) (home : ℕ → ℕ) (nodes : ℕ) (c : NodeCourse) (looks : List (Option Looked)) (n from at : ℕ) (journal : List Event) (seat : SeatView) (desks : List Desk) : Type 0 where
   pub course : NodeCourse
   pub seen_is : course.seen ≡ journal
   pub goes : GoesOn c course
-  pub node : NodeAt law state spells lines home nodes course looks n from at course.phase seat desks
+  pub node : NodeAt law meaning lines home nodes course looks n from at course.phase seat desks
 
 -- It went on by the end of the phase, or by last calls after it: the phases below `done` have ended.
-pub record HasRested (law : Law) (state : List Entry → SpaceMap → Type 0) (spells : List ℕ → Saved → Type 0) (lines : List NamedLine) (home : ℕ → ℕ) (nodes : ℕ) (c : NodeCourse) (looks : List (Option Looked)) (n from done : ℕ) (journal : List Event) (seat : SeatView) (desks : List Desk) : Type 0 where
+pub record HasRested (law : Law) (meaning : Meaning) (lines : List NamedLine) (home : ℕ → ℕ) (nodes : ℕ) (c : NodeCourse) (looks : List (Option Looked)) (n from done : ℕ) (journal : List Event) (seat : SeatView) (desks : List Desk) : Type 0 where
   pub course : NodeCourse
   pub seen_is : course.seen ≡ journal
   pub goes : GoesOn c course
-  pub rests : Rests law state spells lines home nodes course looks n from done seat desks
+  pub rests : Rests law meaning lines home nodes course looks n from done seat desks
 
 -- What a node's line may rest on, as it is played: the log isn't trimmed above what the node has applied, and the node hasn't left,
 -- and reported no more.

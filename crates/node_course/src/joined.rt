@@ -125,9 +125,9 @@ pub fn what_stood_was_asked<P: Rules>()
 /// What a node's lines came to, and how sessions stand at it, is so in the run.
 pub fn what_a_node_knows_is_so<P: Rules, S: Replica>()
     ensures played { (lines : List NamedLine) (home : ℕ → ℕ) (nodes : ℕ) (run : NodeCourse) (looks : List (Option Looked)) (courses : ℕ → NodeCourse) (n from at done i : ℕ) (l : NamedLine) (seat : SeatView) (desks : List Desk)
-        → AreJoined P.law lines home nodes run looks courses → 1 ≤ n → n ≤ nodes → NodeAt P.law S.state S.spells lines home nodes (courses n) looks n from at done seat desks
+        → AreJoined P.law lines home nodes run looks courses → 1 ≤ n → n ≤ nodes → NodeAt P.law S.meaning lines home nodes (courses n) looks n from at done seat desks
         → i < at → slice_get lines i ≡ Some l → l.node ≡ n → PlayedSo lines run done seat.node.replica.cursor n desks looks i l.phase l.asks }
     ensures desks { (lines : List NamedLine) (home : ℕ → ℕ) (nodes : ℕ) (run : NodeCourse) (looks : List (Option Looked)) (courses : ℕ → NodeCourse) (n from at done s : ℕ) (d : Desk) (seat : SeatView) (desks : List Desk)
-        → AreJoined P.law lines home nodes run looks courses → 1 ≤ n → n ≤ nodes → NodeAt P.law S.state S.spells lines home nodes (courses n) looks n from at done seat desks
+        → AreJoined P.law lines home nodes run looks courses → 1 ≤ n → n ≤ nodes → NodeAt P.law S.meaning lines home nodes (courses n) looks n from at done seat desks
         → slice_get desks s ≡ Some d → DeskAt lines home run n from at done s d }
 {}

@@ -2,15 +2,12 @@
 use Rattle.std.proofs.Common.{◌≡◌, ◌≢◌, refl, sym, ap, ◌∙◌, subst, ◌⊎◌, inl, inr, ℕ, zero, suc, ◌+◌, ◌-◌, ◌<◌, ◌≤◌, Bool, true, false, cond, List, [], ◌∷◌, ◌++◌, Option, Some, length, length-append, arith, eq-eqb, eqb-true}
 use Rattle.std.specs.Prelude.{◌==◌, get_or, slice_get, slice_set, remove, insert}
 use Rattle.std.proofs.lemmas.Bool.{cases_lt}
-use Rattle.std.proofs.lemmas.List.{length-set}
 use Rattle.std.proofs.lemmas.Option.{slice_get_within}
 use Rattle.fabric_core.proofs.Marks.{set_other, set_same}
-use Rattle.delos_types.specs.Spaces.{SpaceMap}
-use Rattle.delos_types.specs.declared.entry.Entry.{Entry}
 use Rattle.legal_journal.specs.Law.{Law}
 use Rattle.legal_journal.specs.declared.events.Event.{Event}
 use Rattle.legal_journal.specs.Journal.{IsLegal}
-use Rattle.replica_api.specs.Replica.{Saved}
+use Rattle.replica_api.specs.Replica.{Meaning}
 use Rattle.script_text.specs.declared.asks.NamedLine.{NamedLine}
 use Rattle.turn_scopes.specs.Alone.{OwnSince}
 use Rattle.turn_scopes.specs.Seats.{SeatView, SeatOk}
@@ -18,18 +15,20 @@ use Rattle.node_lines.specs.declared.desk.Desk.{Desk}
 use Rattle.node_lines.specs.declared.lines.Looked.{Looked}
 use Rattle.node_lines.specs.Workers.{MayRun, Grows}
 use Rattle.node_lines.proofs.Staying.{seat_later}
-use Rattle.node_course.specs.Script.{AreLines, BeginsAt}
+use Rattle.node_course.specs.Script.{BeginsAt}
 use Rattle.node_course.specs.Moments.{NodeCourse, and_then, next_phase}
-use Rattle.node_course.specs.Telling.{AreBehind}
+use Rattle.node_course.specs.Telling.{AreBehind, AreTold, AsksBehind}
 use Rattle.node_course.specs.Workers.{HasRested, NodeAt, Rests}
+use Rattle.node_course.proofs.Asked.{behind_joined}
 use Rattle.node_course.proofs.Staying.{node_stays}
+use Rattle.run_laws.proofs.Members.{contained-among}
 use Rattle.node_course.proofs.Passing.{phase_passed}
 use Rattle.node_course.proofs.Lines.{phase_before}
 use Rattle.node_course.proofs.Beginning.{rests_then}
-use Rattle.node_crew.specs.Turns.{HasNone, HasOne, IsUnderWay, KeepsOthers}
-use Rattle.node_crew.specs.Crews.{AreAtWork, EndsPhase, HasSeenAll, CrewAt, CrewRests, CrewStands, SealsOfNodes}
-use Rattle.node_crew.proofs.Playing.{worker_stands, others_of}
-use Rattle.node_crew.proofs.Working.{at_work_none, get_beyond, get_pushed, has_line_in, seals_more, worked_before, worked_now}
+use Rattle.node_crew.specs.Turns.{HasNone}
+use Rattle.node_crew.specs.Crews.{AreAtWork, HasSeenAll, CrewEnds, CrewRests, CrewStands, SealsOfNodes}
+use Rattle.node_crew.proofs.Playing.{KeepsOthers, others_of}
+use Rattle.node_crew.proofs.Working.{at_work_none, get_beyond, get_pushed, own_who, seals_more}
 
 -- an element is taken out, and another put in its place
 pub put_back : {A : Type 0} (xs : List A) (k : ℕ) (y : A) → k < length xs → insert (remove xs k) k y ≡ slice_set xs k y
@@ -52,11 +51,11 @@ changed xs k j old y w at is = by (cases_lt j k) (cases_lt k j)
         inl (same, some refl (sym (set_same xs k y old at) ∙ (ap (slice_get (slice_set xs k y)) (sym same) ∙ is)))
 
 -- a node that rests stays so while others make these events, and their lines' looks come to something
-rests_on : (law : Law) (state : List Entry → SpaceMap → Type 0) (spells : List ℕ → Saved → Type 0) → MayRun law → (lines : List NamedLine) (home : ℕ → ℕ) (nodes : ℕ) (c : NodeCourse) (looks looks' : List (Option Looked)) (n m from done : ℕ) (journal journal' : List Event) (seat : SeatView) (desks : List Desk)
+rests_on : (law : Law) (meaning : Meaning) → MayRun law → (lines : List NamedLine) (home : ℕ → ℕ) (nodes : ℕ) (c : NodeCourse) (looks looks' : List (Option Looked)) (n m from done : ℕ) (journal journal' : List Event) (seat : SeatView) (desks : List Desk)
     → (since : OwnSince n journal journal') → m ≢ n → c.seen ≡ journal → IsLegal law journal' → KeepsOthers lines n looks looks'
-    → Rests law state spells lines home nodes c looks m from done seat desks → Rests law state spells lines home nodes (and_then c since.more) looks' m from done seat desks
-rests_on law state spells run lines home nodes c looks looks' n m from done journal journal' seat desks since apart seen legal keeps r = record {
-  node = node_stays law state spells run lines home nodes c looks looks' m from from done since.more seat desks (others_of n m since.more (λ same. apart (sym same)) since.own)
+    → Rests law meaning lines home nodes c looks m from done seat desks → Rests law meaning lines home nodes (and_then c since.more) looks' m from done seat desks
+rests_on law meaning run lines home nodes c looks looks' n m from done journal journal' seat desks since apart seen legal keeps r = record {
+  node = node_stays law meaning run lines home nodes c looks looks' m from from done since.more seat desks (others_of n m since.more (λ same. apart (sym same)) since.own)
       (subst (IsLegal law) (since.seen ∙ ap (λ j. j ++ since.more) (sym seen)) legal) keeps.size (λ i l get own. keeps.others i l get (by l own (l.node == n) refl)) r.node;
   none_given = r.none_given;
 }
@@ -79,80 +78,22 @@ course_other courses n m course more apart = ap {B = NodeCourse} (λ b. cond b c
     by false is = is
     by true is = absurd (apart (eqb-true m n is))
 
-some_of : {A : Type 0} (xs : List A) (i : ℕ) → i < length xs → (x : A) × (slice_get xs i ≡ Some x)
-some_of [] i low = absurd (omega arith)
-some_of (x ∷ xs) zero low = (x, refl)
-some_of (x ∷ xs) (suc i) low = some_of xs i (omega arith)
-
-module _ {A : Type 0} (law : Law) (state : List Entry → SpaceMap → Type 0) (spells : List ℕ → Saved → Type 0) (lines : List NamedLine) (seat : A → SeatView) (desks : A → List Desk) (workers : List A) where
+module _ {A : Type 0} (law : Law) (meaning : Meaning) (lines : List NamedLine) (seat : A → SeatView) (desks : A → List Desk) (workers : List A) where
   -- the node at this index has seen all of the run
   seen_at : {phase : ℕ} {begins : List (List Event)} {journal : List Event} {courses : ℕ → NodeCourse} → ((n : ℕ) → 1 ≤ n → n ≤ length workers → HasSeenAll phase begins journal (courses n)) → (j : ℕ) (w : A) → slice_get workers j ≡ Some w → HasSeenAll phase begins journal (courses (j + 1))
   seen_at seen j w at = let inside = slice_get_within workers j w at in seen (j + 1) (omega arith) (omega (arith, inside))
 
-  -- each node can take the fabric
-  pub crew_stands : (from to k : ℕ) (journal : List Event) (looks : List (Option Looked)) → CrewAt law state spells lines from to k journal looks seat desks workers → CrewStands law state spells journal seat workers
-  crew_stands from to k journal looks h = λ j w at. by j w at (cases_lt j k)
-    where
-      of : (j begin done : ℕ) (w : A) → slice_get workers j ≡ Some w → Rests law state spells lines h.home (length workers) (h.courses (j + 1)) looks (j + 1) begin done (seat w) (desks w) → SeatOk law state spells journal (seat w)
-      of j begin done w at r = subst (λ i. SeatOk law state spells i (seat w)) (seen_at h.seen j w at).seen_is (worker_stands law state spells (j + 1) (h.courses (j + 1)).seen (seat w) (desks w) r.node.ok)
-
-      by : (j : ℕ) (w : A) → slice_get workers j ≡ Some w → (j < k) ⊎ (k ≤ j) → SeatOk law state spells journal (seat w)
-      by j w at (inl low) = of j to (h.phase + 1) w at (h.had j w low at)
-      by j w at (inr high) = of j from h.phase w at (h.waits j w high at)
-
-  -- it is the turn of the next node
-  pub crew_plays : (from to k : ℕ) (journal : List Event) (looks : List (Option Looked)) (w : A) → slice_get workers k ≡ Some w
-      → (h : CrewAt law state spells lines from to k journal looks seat desks workers)
-      → IsUnderWay law state spells lines h.home (length workers) (h.courses (k + 1)) looks (k + 1) from from journal (seat w) (desks w)
-  crew_plays from to k journal looks w at h =
-      let s = seen_at h.seen k w at in
-      record {
-        seen_is = s.seen_is;
-        lines_are = h.lines_are;
-        begins = subst (BeginsAt lines from) (sym s.phase_is) h.starts;
-        node = subst (λ p. NodeAt law state spells lines h.home (length workers) (h.courses (k + 1)) looks (k + 1) from from p (seat w) (desks w)) (sym s.phase_is) (h.waits k w (omega arith) at).node;
-      }
-
-  pub crew_ending : (from to k : ℕ) (journal : List Event) (looks : List (Option Looked)) (w : A) → slice_get workers k ≡ Some w
-      → (h : CrewAt law state spells lines from to k journal looks seat desks workers) → BeginsAt lines to ((h.courses (k + 1)).phase + 1)
-  crew_ending from to k journal looks w at h = subst (λ p. BeginsAt lines to (p + 1)) (sym (seen_at h.seen k w at).phase_is) h.ends
-
   -- a node without a line in the phase passes by
   passes : (home : ℕ → ℕ) (c : NodeCourse) (looks : List (Option Looked)) (n from to phase : ℕ) (w : A) → c.phase ≡ phase → from ≤ to → BeginsAt lines from phase → HasNone lines from to n
-      → Rests law state spells lines home (length workers) c looks n from phase (seat w) (desks w) → Rests law state spells lines home (length workers) c looks n to (phase + 1) (seat w) (desks w)
-  passes home c looks n from to phase w is range b none r = subst (λ p. Rests law state spells lines home (length workers) c looks n to (p + 1) (seat w) (desks w)) is (record {
-    node = phase_passed law state spells lines home (length workers) c looks n from to (seat w) (desks w) range (subst (BeginsAt lines from) (sym is) b) none
-        (subst (λ p. NodeAt law state spells lines home (length workers) c looks n from from p (seat w) (desks w)) (sym is) r.node);
+      → Rests law meaning lines home (length workers) c looks n from phase (seat w) (desks w) → Rests law meaning lines home (length workers) c looks n to (phase + 1) (seat w) (desks w)
+  passes home c looks n from to phase w is range b none r = subst (λ p. Rests law meaning lines home (length workers) c looks n to (p + 1) (seat w) (desks w)) is (record {
+    node = phase_passed law meaning lines home (length workers) c looks n from to (seat w) (desks w) range (subst (BeginsAt lines from) (sym is) b) none
+        (subst (λ p. NodeAt law meaning lines home (length workers) c looks n from from p (seat w) (desks w)) (sym is) r.node);
     none_given = r.none_given;
   })
 
-  pub crew_passed : (from to k : ℕ) (journal : List Event) (looks : List (Option Looked)) → from ≤ to → HasNone lines from to (k + 1)
-      → CrewAt law state spells lines from to k journal looks seat desks workers → CrewAt law state spells lines from to (k + 1) journal looks seat desks workers
-  crew_passed from to k journal looks range none h = record {
-    home = h.home;
-    courses = h.courses;
-    phase = h.phase;
-    begins = h.begins;
-    lines_are = h.lines_are;
-    starts = h.starts;
-    ends = h.ends;
-    long = h.long;
-    made = h.made;
-    seals = h.seals;
-    behind = h.behind;
-    seen = h.seen;
-    had = λ j w low at. by j w at (cases_lt j k) low;
-    waits = λ j w high at. h.waits j w (omega (arith, high)) at;
-  }
-    where
-      by : (j : ℕ) (w : A) → slice_get workers j ≡ Some w → (j < k) ⊎ (k ≤ j) → j < k + 1 → Rests law state spells lines h.home (length workers) (h.courses (j + 1)) looks (j + 1) to (h.phase + 1) (seat w) (desks w)
-      by j w at (inl low) under = h.had j w low at
-      by j w at (inr high) under =
-          let same : k ≡ j = omega (arith, high, under) in
-          passes h.home (h.courses (j + 1)) looks (j + 1) from to h.phase w (seen_at h.seen j w at).phase_is range h.starts (subst (λ i. HasNone lines from to (i + 1)) same none) (h.waits j w high at)
-
   -- A node had events, and its course went on, to where it rests; so did those of the others.
-  module _ (run : MayRun law) (home : ℕ → ℕ) (courses : ℕ → NodeCourse) (phase : ℕ) (begins : List (List Event)) (to done k : ℕ) (journal journal' : List Event) (looks looks' : List (Option Looked)) (w w' : A) (at : slice_get workers k ≡ Some w) (all : (n : ℕ) → 1 ≤ n → n ≤ length workers → HasSeenAll phase begins journal (courses n)) (since : OwnSince (k + 1) journal journal') (keeps : KeepsOthers lines (k + 1) looks looks') (t : HasRested law state spells lines home (length workers) (courses (k + 1)) looks' (k + 1) to done journal' (seat w') (desks w')) where
+  module _ (run : MayRun law) (home : ℕ → ℕ) (courses : ℕ → NodeCourse) (phase : ℕ) (begins : List (List Event)) (to done k : ℕ) (journal journal' : List Event) (looks looks' : List (Option Looked)) (w w' : A) (at : slice_get workers k ≡ Some w) (all : (n : ℕ) → 1 ≤ n → n ≤ length workers → HasSeenAll phase begins journal (courses n)) (since : OwnSince (k + 1) journal journal') (keeps : KeepsOthers lines (k + 1) looks looks') (t : HasRested law meaning lines home (length workers) (courses (k + 1)) looks' (k + 1) to done journal' (seat w') (desks w')) where
     abbrev pub then_courses : ℕ → NodeCourse
     then_courses m = courses_then courses (k + 1) t.course since.more m
 
@@ -175,132 +116,41 @@ module _ {A : Type 0} (law : Law) (state : List Entry → SpaceMap → Type 0) (
         by (inr apart) s = subst (HasSeenAll phase begins journal') (sym (course_other courses (k + 1) n t.course since.more apart))
             (record { phase_is = s.phase_is; begins_are = s.begins_are; seen_is = ap (λ j. j ++ since.more) s.seen_is ∙ sym since.seen })
 
-    pub then_others : (j begin over : ℕ) (x : A) → j ≢ k → slice_get workers j ≡ Some x → Rests law state spells lines home (length workers) (courses (j + 1)) looks (j + 1) begin over (seat x) (desks x)
-        → Rests law state spells lines home (length workers) (then_courses (j + 1)) looks' (j + 1) begin over (seat x) (desks x)
+    pub then_others : (j begin over : ℕ) (x : A) → j ≢ k → slice_get workers j ≡ Some x → Rests law meaning lines home (length workers) (courses (j + 1)) looks (j + 1) begin over (seat x) (desks x)
+        → Rests law meaning lines home (length workers) (then_courses (j + 1)) looks' (j + 1) begin over (seat x) (desks x)
     then_others j begin over x other is r =
         let apart : j + 1 ≢ k + 1 = λ same. other (omega (arith, same)) in
-        subst (λ c. Rests law state spells lines home (length workers) c looks' (j + 1) begin over (seat x) (desks x)) (sym (course_other courses (k + 1) (j + 1) t.course since.more apart))
-        (rests_on law state spells run lines home (length workers) (courses (j + 1)) looks looks' (k + 1) (j + 1) begin over journal journal' (seat x) (desks x) since apart (seen_at all j x is).seen_is
+        subst (λ c. Rests law meaning lines home (length workers) c looks' (j + 1) begin over (seat x) (desks x)) (sym (course_other courses (k + 1) (j + 1) t.course since.more apart))
+        (rests_on law meaning run lines home (length workers) (courses (j + 1)) looks looks' (k + 1) (j + 1) begin over journal journal' (seat x) (desks x) since apart (seen_at all j x is).seen_is
         (subst (IsLegal law) t.seen_is t.rests.node.did.legal) keeps r)
 
-    pub then_own : Rests law state spells lines home (length workers) (then_courses (k + 1)) looks' (k + 1) to done (seat w') (desks w')
-    then_own = subst (λ c. Rests law state spells lines home (length workers) c looks' (k + 1) to done (seat w') (desks w')) (sym (course_own courses (k + 1) t.course since.more)) t.rests
-
-    pub then_size : length (slice_set workers k w') ≡ length workers
-    then_size = length-set workers k w'
+    pub then_own : Rests law meaning lines home (length workers) (then_courses (k + 1)) looks' (k + 1) to done (seat w') (desks w')
+    then_own = subst (λ c. Rests law meaning lines home (length workers) c looks' (k + 1) to done (seat w') (desks w')) (sym (course_own courses (k + 1) t.course since.more)) t.rests
 
     pub then_seals : SealsOfNodes (length workers) journal → SealsOfNodes (length workers) journal'
     then_seals h = seals_more (length workers) (k + 1) journal journal' (omega arith) (let inside = slice_get_within workers k w at in omega (arith, inside)) since h
 
     pub then_behind : AreBehind journal → AreBehind journal'
-    then_behind h = subst AreBehind t.seen_is (t.rests.node.did.behind journal (record { more = since.more; seen = t.seen_is ∙ since.seen; own = since.own }) h)
-
-  -- a node has had its turn
-  pub crew_turned : MayRun law → (from to k : ℕ) (journal journal' : List Event) (looks looks' : List (Option Looked)) (w w' : A) → slice_get workers k ≡ Some w
-      → (h : CrewAt law state spells lines from to k journal looks seat desks workers)
-      → OwnSince (k + 1) journal journal' → HasOne lines from to (k + 1) → KeepsOthers lines (k + 1) looks looks'
-      → HasRested law state spells lines h.home (length workers) (h.courses (k + 1)) looks' (k + 1) to ((h.courses (k + 1)).phase + 1) journal' (seat w') (desks w')
-      → CrewAt law state spells lines from to (k + 1) journal' looks' seat desks (slice_set workers k w')
-  crew_turned run from to k journal journal' looks looks' w w' at h since one keeps t = record {
-    home = h.home;
-    courses = λ m. courses_then h.courses (k + 1) t.course since.more m;
-    phase = h.phase;
-    begins = h.begins;
-    lines_are = subst (AreLines lines h.home) (sym size) h.lines_are;
-    starts = h.starts;
-    ends = h.ends;
-    long = h.long;
-    made = λ i l get low. made i l get low (cases_lt l.phase h.phase);
-    seals = subst (λ n. SealsOfNodes n journal') (sym size) (then_seals run h.home h.courses h.phase h.begins to ((h.courses (k + 1)).phase + 1) k journal journal' looks looks' w w' at h.seen since keeps t h.seals);
-    behind = then_behind run h.home h.courses h.phase h.begins to ((h.courses (k + 1)).phase + 1) k journal journal' looks looks' w w' at h.seen since keeps t h.behind;
-    seen = λ n least most. then_seen run h.home h.courses h.phase h.begins to ((h.courses (k + 1)).phase + 1) k journal journal' looks looks' w w' at h.seen since keeps t n least (omega (arith, most, size));
-    had = λ j x low is. subst (λ n. Rests law state spells lines h.home n (courses_then h.courses (k + 1) t.course since.more (j + 1)) looks' (j + 1) to (h.phase + 1) (seat x) (desks x)) (sym size) (had j x low (changed workers k j w w' x at is));
-    waits = λ j x high is. subst (λ n. Rests law state spells lines h.home n (courses_then h.courses (k + 1) t.course since.more (j + 1)) looks' (j + 1) from h.phase (seat x) (desks x)) (sym size) (waits j x high (changed workers k j w w' x at is));
-  }
-    where
-      size : length (slice_set workers k w') ≡ length workers
-      size = length-set workers k w'
-
-      -- the node had a line of the phase
-      made : (i : ℕ) (l : NamedLine) → slice_get lines i ≡ Some l → l.phase ≤ h.phase → (l.phase < h.phase) ⊎ (h.phase ≤ l.phase) → AreAtWork lines l.phase (get_or h.begins l.phase journal') (get_or h.begins (l.phase + 1) journal')
-      made i l get low (inl early) = worked_before lines h.phase h.begins journal journal' l.phase h.long (omega (arith, early)) (h.made i l get low)
-      made i l get low (inr late) =
-          let same : h.phase ≡ l.phase = omega (arith, low, late) in
-          subst (λ p. AreAtWork lines p (get_or h.begins p journal') (get_or h.begins (p + 1) journal')) same
-          (worked_now lines h.phase (k + 1) h.begins journal journal' h.long (has_line_in lines from to h.phase (k + 1) h.starts h.ends one) since
-          (subst (λ p. AreAtWork lines p (get_or h.begins p journal) (get_or h.begins (p + 1) journal)) (sym same) (h.made i l get low)))
-
-      on : (j begin over : ℕ) (x : A) → j ≢ k → slice_get workers j ≡ Some x → Rests law state spells lines h.home (length workers) (h.courses (j + 1)) looks (j + 1) begin over (seat x) (desks x)
-          → Rests law state spells lines h.home (length workers) (courses_then h.courses (k + 1) t.course since.more (j + 1)) looks' (j + 1) begin over (seat x) (desks x)
-      on j begin over x other is r = then_others run h.home h.courses h.phase h.begins to ((h.courses (k + 1)).phase + 1) k journal journal' looks looks' w w' at h.seen since keeps t j begin over x other is r
-
-      mine : Rests law state spells lines h.home (length workers) (courses_then h.courses (k + 1) t.course since.more (k + 1)) looks' (k + 1) to (h.phase + 1) (seat w') (desks w')
-      mine = subst (λ p. Rests law state spells lines h.home (length workers) (courses_then h.courses (k + 1) t.course since.more (k + 1)) looks' (k + 1) to (p + 1) (seat w') (desks w')) (seen_at h.seen k w at).phase_is
-          (then_own run h.home h.courses h.phase h.begins to ((h.courses (k + 1)).phase + 1) k journal journal' looks looks' w w' at h.seen since keeps t)
-
-      had : (j : ℕ) (x : A) → j < k + 1 → ((j ≡ k) × (w' ≡ x)) ⊎ ((j ≢ k) × (slice_get workers j ≡ Some x)) → Rests law state spells lines h.home (length workers) (courses_then h.courses (k + 1) t.course since.more (j + 1)) looks' (j + 1) to (h.phase + 1) (seat x) (desks x)
-      had j x low (inl same) =
-          subst (λ y. Rests law state spells lines h.home (length workers) (courses_then h.courses (k + 1) t.course since.more (j + 1)) looks' (j + 1) to (h.phase + 1) (seat y) (desks y)) same.1
-          (subst (λ i. Rests law state spells lines h.home (length workers) (courses_then h.courses (k + 1) t.course since.more (i + 1)) looks' (i + 1) to (h.phase + 1) (seat w') (desks w')) (sym same.0) mine)
-      had j x low (inr other) = on j to (h.phase + 1) x other.0 other.1 (h.had j x (by (cases_lt j k)) other.1)
-        where
-          by : (j < k) ⊎ (k ≤ j) → j < k
-          by (inl less) = less
-          by (inr high) = absurd (other.0 (omega (arith, high, low)))
-
-      waits : (j : ℕ) (x : A) → k + 1 ≤ j → ((j ≡ k) × (w' ≡ x)) ⊎ ((j ≢ k) × (slice_get workers j ≡ Some x)) → Rests law state spells lines h.home (length workers) (courses_then h.courses (k + 1) t.course since.more (j + 1)) looks' (j + 1) from h.phase (seat x) (desks x)
-      waits j x high (inl same) = absurd (omega (arith, high, same.0))
-      waits j x high (inr other) = on j from h.phase x other.0 other.1 (h.waits j x (omega (arith, high)) other.1)
+    then_behind h = behind_joined law run lines looks' journal journal' since.more since.seen (subst (IsLegal law) t.seen_is t.rests.node.did.legal) h
+        (λ e there. subst (λ n. AreTold lines looks' n journal' × AsksBehind n journal') (sym (own_who (k + 1) since.more e since.own (contained-among since.more e there)))
+        (subst (AreTold lines looks' (k + 1)) t.seen_is t.rests.node.did.told, subst (AsksBehind (k + 1)) t.seen_is t.rests.node.did.behind))
 
   -- one node came to a later journal, at which the others can take the fabric too
   pub still_stands : (k : ℕ) (journal journal' : List Event) (w w' : A) → slice_get workers k ≡ Some w → Grows journal journal'
-      → CrewStands law state spells journal seat workers → SeatOk law state spells journal' (seat w') → CrewStands law state spells journal' seat (slice_set workers k w')
+      → CrewStands law meaning journal seat workers → SeatOk law meaning journal' (seat w') → CrewStands law meaning journal' seat (slice_set workers k w')
   still_stands k journal journal' w w' at grows h s = λ j x is. by j x (changed workers k j w w' x at is)
     where
-      by : (j : ℕ) (x : A) → ((j ≡ k) × (w' ≡ x)) ⊎ ((j ≢ k) × (slice_get workers j ≡ Some x)) → SeatOk law state spells journal' (seat x)
-      by j x (inl same) = subst (λ y. SeatOk law state spells journal' (seat y)) same.1 s
+      by : (j : ℕ) (x : A) → ((j ≡ k) × (w' ≡ x)) ⊎ ((j ≢ k) × (slice_get workers j ≡ Some x)) → SeatOk law meaning journal' (seat x)
+      by j x (inl same) = subst (λ y. SeatOk law meaning journal' (seat y)) same.1 s
       by j x (inr other) =
-          subst (λ i. SeatOk law state spells i (seat x)) (sym grows.1)
-          (seat_later law journal grows.0 (subst (IsLegal law) grows.1 s.node.legal) state spells (seat x) (h j x other.1))
+          subst (λ i. SeatOk law meaning i (seat x)) (sym grows.1)
+          (seat_later law journal grows.0 (subst (IsLegal law) grows.1 s.node.legal) meaning (seat x) (h j x other.1))
 
   -- Phases
 
-  -- a phase begins
-  pub crew_begins : (from to phase : ℕ) (journal : List Event) (looks : List (Option Looked)) → from ≤ to → EndsPhase lines from to phase
-      → CrewRests law state spells lines from phase journal looks seat desks workers → CrewAt law state spells lines from to 0 journal looks seat desks workers
-  crew_begins from to phase journal looks range e h = record {
-    home = h.home;
-    courses = h.courses;
-    phase = phase;
-    begins = h.begins;
-    lines_are = h.lines_are;
-    starts = h.ends;
-    ends = record {
-      before = λ i l at low. before i l at low (cases_lt i from);
-      behind = λ i l at high. behind i l at high (some_of lines to (let inside = slice_get_within lines i l at in omega (arith, inside, high)));
-    };
-    long = h.long;
-    made = h.made;
-    seals = h.seals;
-    behind = h.behind;
-    seen = h.seen;
-    had = λ j w low at. absurd (omega (arith, low));
-    waits = λ j w high at. h.each j w at;
-  }
-    where
-      before : (i : ℕ) (l : NamedLine) → slice_get lines i ≡ Some l → i < to → (i < from) ⊎ (from ≤ i) → l.phase < phase + 1
-      before i l at low (inl early) = let h1 = h.ends.before i l at early in omega (arith, h1)
-      before i l at low (inr late) = let h1 = e.inside i l late low at in omega (arith, h1)
-
-      behind : (i : ℕ) (l : NamedLine) → slice_get lines i ≡ Some l → to ≤ i → (m : NamedLine) × (slice_get lines to ≡ Some m) → phase + 1 ≤ l.phase
-      behind i l at high next =
-          let up = phase_before lines h.home (length workers) h.lines_are to i next.0 l next.1 at high in
-          let above = e.next next.0 next.1 in
-          omega (arith, up, above)
-
   -- a phase has ended
   pub crew_ends : (from to : ℕ) (journal : List Event) (looks : List (Option Looked))
-      → (h : CrewAt law state spells lines from to (length workers) journal looks seat desks workers) → CrewRests law state spells lines to (h.phase + 1) journal looks seat desks workers
+      → (h : CrewEnds law meaning lines from to journal looks seat desks workers) → CrewRests law meaning lines to (h.phase + 1) journal looks seat desks workers
   crew_ends from to journal looks h = record {
     home = h.home;
     courses = λ n. next_phase (h.courses n);
@@ -336,14 +186,14 @@ module _ {A : Type 0} (law : Law) (state : List Entry → SpaceMap → Type 0) (
       }
 
       each : (j : ℕ) (w : A) → slice_get workers j ≡ Some w → HasSeenAll h.phase h.begins journal (h.courses (j + 1))
-          → Rests law state spells lines h.home (length workers) (next_phase (h.courses (j + 1))) looks (j + 1) to (h.phase + 1) (seat w) (desks w)
-      each j w at s = subst (λ p. Rests law state spells lines h.home (length workers) (next_phase (h.courses (j + 1))) looks (j + 1) to (p + 1) (seat w) (desks w)) s.phase_is
-          (rests_then law state spells lines h.home (length workers) (h.courses (j + 1)) looks (j + 1) to (seat w) (desks w) (subst (λ p. BeginsAt lines to (p + 1)) (sym s.phase_is) h.ends)
-          (subst (λ p. Rests law state spells lines h.home (length workers) (h.courses (j + 1)) looks (j + 1) to (p + 1) (seat w) (desks w)) (sym s.phase_is) (h.had j w (slice_get_within workers j w at) at)))
+          → Rests law meaning lines h.home (length workers) (next_phase (h.courses (j + 1))) looks (j + 1) to (h.phase + 1) (seat w) (desks w)
+      each j w at s = subst (λ p. Rests law meaning lines h.home (length workers) (next_phase (h.courses (j + 1))) looks (j + 1) to (p + 1) (seat w) (desks w)) s.phase_is
+          (rests_then law meaning lines h.home (length workers) (h.courses (j + 1)) looks (j + 1) to (seat w) (desks w) (subst (λ p. BeginsAt lines to (p + 1)) (sym s.phase_is) h.ends)
+          (subst (λ p. Rests law meaning lines h.home (length workers) (h.courses (j + 1)) looks (j + 1) to (p + 1) (seat w) (desks w)) (sym s.phase_is) (h.each j w at)))
 
   -- all nodes pass by a phase without a line
   all_pass : (from phase : ℕ) (journal : List Event) (looks : List (Option Looked)) → BeginsAt lines from (phase + 1)
-      → CrewRests law state spells lines from phase journal looks seat desks workers → CrewRests law state spells lines from (phase + 1) journal looks seat desks workers
+      → CrewRests law meaning lines from phase journal looks seat desks workers → CrewRests law meaning lines from (phase + 1) journal looks seat desks workers
   all_pass from phase journal looks b h = crew_ends from from journal looks (record {
     home = h.home;
     courses = h.courses;
@@ -357,30 +207,29 @@ module _ {A : Type 0} (law : Law) (state : List Entry → SpaceMap → Type 0) (
     seals = h.seals;
     behind = h.behind;
     seen = h.seen;
-    had = λ j w low at. passes h.home (h.courses (j + 1)) looks (j + 1) from from phase w (seen_at h.seen j w at).phase_is (omega arith) h.ends (λ i l more less get. absurd (omega (arith, more, less))) (h.each j w at);
-    waits = λ j w high at. absurd (let inside = slice_get_within workers j w at in omega (arith, inside, high));
+    each = λ j w at. passes h.home (h.courses (j + 1)) looks (j + 1) from from phase w (seen_at h.seen j w at).phase_is (omega arith) h.ends (λ i l more less get. absurd (omega (arith, more, less))) (h.each j w at);
   })
 
   -- .. and by as many as there are
   pub crew_skips : (from n phase : ℕ) (journal : List Event) (looks : List (Option Looked)) → BeginsAt lines from (phase + n)
-      → CrewRests law state spells lines from phase journal looks seat desks workers → CrewRests law state spells lines from (phase + n) journal looks seat desks workers
-  crew_skips from zero phase journal looks b h = let e : phase ≡ phase + zero = omega arith in subst (λ p. CrewRests law state spells lines from p journal looks seat desks workers) e h
+      → CrewRests law meaning lines from phase journal looks seat desks workers → CrewRests law meaning lines from (phase + n) journal looks seat desks workers
+  crew_skips from zero phase journal looks b h = let e : phase ≡ phase + zero = omega arith in subst (λ p. CrewRests law meaning lines from p journal looks seat desks workers) e h
   crew_skips from (suc n) phase journal looks b h =
       let one : BeginsAt lines from (phase + 1) = record {
         before = λ i l at low. let early = h.ends.before i l at low in omega (arith, early);
         behind = λ i l at high. let late = b.behind i l at high in omega (arith, late);
       } in
       let same : (phase + 1) + n ≡ phase + suc n = omega arith in
-      subst (λ p. CrewRests law state spells lines from p journal looks seat desks workers) same
+      subst (λ p. CrewRests law meaning lines from p journal looks seat desks workers) same
       (crew_skips from n (phase + 1) journal looks (subst (BeginsAt lines from) (sym same) b) (all_pass from phase journal looks one h))
 
   -- the lines behind are of the first one's phase or of a later one
   pub crew_comes : (from phase : ℕ) (journal : List Event) (looks : List (Option Looked)) (line : NamedLine) → slice_get lines from ≡ Some line
-      → CrewRests law state spells lines from phase journal looks seat desks workers → CrewRests law state spells lines from line.phase journal looks seat desks workers
+      → CrewRests law meaning lines from phase journal looks seat desks workers → CrewRests law meaning lines from line.phase journal looks seat desks workers
   crew_comes from phase journal looks line at h =
       let up = h.ends.behind from line at (omega arith) in
       let is : phase + (line.phase - phase) ≡ line.phase = omega (arith, up) in
-      subst (λ p. CrewRests law state spells lines from p journal looks seat desks workers) is
+      subst (λ p. CrewRests law meaning lines from p journal looks seat desks workers) is
       (crew_skips from (line.phase - phase) phase journal looks (subst (BeginsAt lines from) (sym is) (record {
         before = λ i l get low. let early = h.ends.before i l get low in omega (arith, early, up);
         behind = λ i l get high. phase_before lines h.home (length workers) h.lines_are from i line l at get high;

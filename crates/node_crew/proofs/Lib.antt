@@ -1,4 +1,5 @@
 pub mod Ok
+pub mod Notes
 pub mod Playing
 pub mod Working
 pub mod Crews

@@ -6,10 +6,6 @@ pub on_ok : {A E : Type 0} {P Q : Type 0} (x : Result A E) → OnOk x P → (P �
 on_ok (Ok a) p f = f p
 on_ok (Err e) p f = tt
 
-pub on_ok2 : {A E : Type 0} {P Q R : Type 0} (x : Result A E) → OnOk x P → OnOk x Q → (P → Q → R) → OnOk x R
-on_ok2 (Ok a) p q f = f p q
-on_ok2 (Err e) p q f = tt
-
 pub on_ok3 : {A E : Type 0} {P Q R S : Type 0} (x : Result A E) → OnOk x P → OnOk x Q → OnOk x R → (P → Q → R → S) → OnOk x S
 on_ok3 (Ok a) p q r f = f p q r
 on_ok3 (Err e) p q r f = tt

@@ -1,14 +1,11 @@
 -- A node's turn, from line to line.
-use Rattle.std.proofs.Common.{◌≡◌, ◌≢◌, refl, sym, ap, ◌∙◌, subst, ℕ, ◌+◌, ◌<◌, ◌≤◌, true, false, List, [], ◌∷◌, Option, Some, arith, eq-eqb}
-use Rattle.std.specs.Prelude.{◌==◌, slice_get, slice_set, length}
-use Rattle.std.proofs.lemmas.List.{length-set}
-use Rattle.fabric_core.proofs.Marks.{set_other}
-use Rattle.delos_types.specs.Spaces.{SpaceMap}
+use Rattle.std.proofs.Common.{◌≡◌, ◌≢◌, refl, sym, ◌∙◌, subst, ℕ, ◌+◌, ◌<◌, ◌≤◌, false, List, [], ◌∷◌, Option, Some, length, arith}
+use Rattle.std.specs.Prelude.{◌==◌, slice_get}
 use Rattle.delos_types.specs.declared.entry.Entry.{Entry}
 use Rattle.legal_journal.specs.Law.{Law}
 use Rattle.legal_journal.specs.declared.events.Event.{Event}
 use Rattle.legal_journal.specs.Turns.{AreOthers}
-use Rattle.replica_api.specs.Replica.{Saved}
+use Rattle.replica_api.specs.Replica.{Meaning}
 use Rattle.script_text.specs.declared.asks.NamedLine.{NamedLine}
 use Rattle.virtual_log.specs.Sealing.{SealsNone}
 use Rattle.turn_scopes.specs.Alone.{AreOwn}
@@ -27,17 +24,17 @@ use Rattle.node_course.proofs.Joining.{goes_none, goes_both}
 use Rattle.node_course.proofs.Lines.{at_get}
 use Rattle.node_course.proofs.Passing.{another_line}
 use Rattle.node_course.proofs.Turning.{not_left, trims_low}
-use Rattle.node_crew.specs.Turns.{HasOne, IsUnderWay, KeepsBut, KeepsOthers}
+use Rattle.node_crew.specs.Turns.{HasOne, IsUnderWay}
 
 -- a node with its sessions can take the fabric
-pub worker_stands : (law : Law) (state : List Entry → SpaceMap → Type 0) (spells : List ℕ → Saved → Type 0) (who : ℕ) (journal : List Event) (seat : SeatView) (desks : List Desk)
-    → WorkerOk law state spells who journal seat desks → SeatOk law state spells journal seat
-worker_stands law state spells who journal seat desks h = seat_allowed law who (sent_by desks) state spells journal seat h.ok
+pub worker_stands : (law : Law) (meaning : Meaning) (who : ℕ) (journal : List Event) (seat : SeatView) (desks : List Desk)
+    → WorkerOk law meaning who journal seat desks → SeatOk law meaning journal seat
+worker_stands law meaning who journal seat desks h = seat_allowed law who (sent_by desks) meaning journal seat h.ok
 
-module _ (law : Law) (state : List Entry → SpaceMap → Type 0) (spells : List ℕ → Saved → Type 0) (lines : List NamedLine) (home : ℕ → ℕ) (nodes : ℕ) (c : NodeCourse) (n from : ℕ) where
+module _ (law : Law) (meaning : Meaning) (lines : List NamedLine) (home : ℕ → ℕ) (nodes : ℕ) (c : NodeCourse) (n from : ℕ) where
   -- no line was played yet
-  pub none_went : (looks : List (Option Looked)) (journal : List Event) (seat : SeatView) (desks : List Desk) → IsUnderWay law state spells lines home nodes c looks n from from journal seat desks
-      → LineWent law state spells lines home nodes c looks n from from journal seat desks
+  pub none_went : (looks : List (Option Looked)) (journal : List Event) (seat : SeatView) (desks : List Desk) → IsUnderWay law meaning lines home nodes c looks n from from journal seat desks
+      → LineWent law meaning lines home nodes c looks n from from journal seat desks
   none_went looks journal seat desks u = record {
     course = c;
     seen_is = u.seen_is;
@@ -46,8 +43,8 @@ module _ (law : Law) (state : List Entry → SpaceMap → Type 0) (spells : List
   }
 
   -- so far it is the node's turn
-  pub under_way : (looks looks' : List (Option Looked)) (i : ℕ) (early journal : List Event) (seat seat' : SeatView) (desks desks' : List Desk) → IsUnderWay law state spells lines home nodes c looks n from from early seat desks
-      → (w : LineWent law state spells lines home nodes c looks' n from i journal seat' desks') → IsUnderWay law state spells lines home nodes w.course looks' n from i journal seat' desks'
+  pub under_way : (looks looks' : List (Option Looked)) (i : ℕ) (early journal : List Event) (seat seat' : SeatView) (desks desks' : List Desk) → IsUnderWay law meaning lines home nodes c looks n from from early seat desks
+      → (w : LineWent law meaning lines home nodes c looks' n from i journal seat' desks') → IsUnderWay law meaning lines home nodes w.course looks' n from i journal seat' desks'
   under_way looks looks' i early journal seat seat' desks desks' u w = record {
     seen_is = w.seen_is;
     lines_are = u.lines_are;
@@ -57,9 +54,9 @@ module _ (law : Law) (state : List Entry → SpaceMap → Type 0) (spells : List
 
   -- one more line
   pub then_went : (looks' looks'' : List (Option Looked)) (i : ℕ) (journal journal' : List Event) (seat seat' : SeatView) (desks desks' : List Desk)
-      → (w : LineWent law state spells lines home nodes c looks' n from i journal seat desks)
-      → LineWent law state spells lines home nodes w.course looks'' n from (i + 1) journal' seat' desks'
-      → LineWent law state spells lines home nodes c looks'' n from (i + 1) journal' seat' desks'
+      → (w : LineWent law meaning lines home nodes c looks' n from i journal seat desks)
+      → LineWent law meaning lines home nodes w.course looks'' n from (i + 1) journal' seat' desks'
+      → LineWent law meaning lines home nodes c looks'' n from (i + 1) journal' seat' desks'
   then_went looks' looks'' i journal journal' seat seat' desks desks' w v = record {
     course = v.course;
     seen_is = v.seen_is;
@@ -69,17 +66,17 @@ module _ (law : Law) (state : List Entry → SpaceMap → Type 0) (spells : List
 
   -- a line of another node
   pub passed_by : (looks' : List (Option Looked)) (i : ℕ) (line : NamedLine) (journal : List Event) (seat : SeatView) (desks : List Desk) → slice_get lines i ≡ Some line → (line.node == n) ≡ false
-      → LineWent law state spells lines home nodes c looks' n from i journal seat desks → LineWent law state spells lines home nodes c looks' n from (i + 1) journal seat desks
+      → LineWent law meaning lines home nodes c looks' n from i journal seat desks → LineWent law meaning lines home nodes c looks' n from (i + 1) journal seat desks
   passed_by looks' i line journal seat desks at other w = record {
     course = w.course;
     seen_is = w.seen_is;
     goes = w.goes;
-    node = another_line law state spells lines home nodes w.course looks' n from i w.course.phase line seat desks at other w.node;
+    node = another_line law meaning lines home nodes w.course looks' n from i w.course.phase line seat desks at other w.node;
   }
 
   -- a node that has a line to play can play it: it hasn't left, so the log isn't trimmed above what it has applied
   pub can_begin : MayRun law → FloorIs law.floor nodes → (looks : List (Option Looked)) (to : ℕ) (journal : List Event) (seat : SeatView) (desks : List Desk) → HasOne lines from to n
-      → IsUnderWay law state spells lines home nodes c looks n from from journal seat desks → CanPlay n journal seat
+      → IsUnderWay law meaning lines home nodes c looks n from from journal seat desks → CanPlay n journal seat
   can_begin run is looks to journal seat desks one u =
       let there = at_get (λ (l : NamedLine). (1 ≤ l.node) × (l.node ≤ nodes)) lines one.at one.line u.lines_are.nodes_are one.is in
       let stays : HasNotLeft n c.seen = not_left law run lines looks n c.seen u.node.did.legal u.node.did.told one.at
@@ -105,8 +102,8 @@ kept_by is there can = record {
 }
 
 -- it began no Seal where it has no right to
-pub left_still : {law : Law} {state : List Entry → SpaceMap → Type 0} {spells : List ℕ → Saved → Type 0} {beside : ℕ → ℕ → Type 0} {old new : List Event} {a b : SeatView}
-    → IsLeft law state spells beside ⊥ old a new b → SealsNone a.who old new
+pub left_still : {law : Law} {meaning : Meaning} {beside : ℕ → ℕ → Type 0} {old new : List Event} {a b : SeatView}
+    → IsLeft law meaning beside ⊥ old a new b → SealsNone a.who old new
 left_still {old} {new} {a} h = seals_none a.who old new h.seals
 
 -- the events of one node are of others for each other node
@@ -114,31 +111,12 @@ pub others_of : (n m : ℕ) (es : List Event) → n ≢ m → AreOwn n es → Ar
 others_of n m [] apart h = tt
 others_of n m (e ∷ es) apart h = ((λ same. apart (sym h.0 ∙ same)), others_of n m es apart h.1)
 
--- Which looks a turn keeps
+-- Which looks are kept
+
+-- What the lines' own looks came to is kept, but for those of node n's lines.
+pub record KeepsOthers (lines : List NamedLine) (n : ℕ) (old new : List (Option Looked)) : Type 0 where
+  pub size : length new ≡ length old
+  pub others : (i : ℕ) (l : NamedLine) → slice_get lines i ≡ Some l → (l.node == n) ≡ false → slice_get new i ≡ slice_get old i
 
 pub keeps_none : (lines : List NamedLine) (n : ℕ) (looks : List (Option Looked)) → KeepsOthers lines n looks looks
 keeps_none lines n looks = record { size = refl; others = λ i l at other. refl }
-
-pub keeps_but : (i : ℕ) (looks : List (Option Looked)) → KeepsBut i looks looks
-keeps_but i looks = record { size = refl; others = λ j apart. refl }
-
-pub keeps_set : (i : ℕ) (look : Option Looked) (looks new : List (Option Looked)) → new ≡ slice_set looks i look → KeepsBut i looks new
-keeps_set i look looks new is = record {
-  size = ap length is ∙ length-set looks i look;
-  others = λ j apart. ap (λ ls. slice_get ls j) is ∙ set_other looks i j look apart;
-}
-
--- .. and one more line, which is the node's
-pub keeps_more : (lines : List NamedLine) (n i : ℕ) (line : NamedLine) (looks mid new : List (Option Looked)) → slice_get lines i ≡ Some line → line.node ≡ n → KeepsOthers lines n looks mid → KeepsBut i mid new → KeepsOthers lines n looks new
-keeps_more lines n i line looks mid new at own h k = record {
-  size = k.size ∙ h.size;
-  others = λ j l get other. k.others j (λ same. not_own j l get other same) ∙ h.others j l get other;
-}
-  where
-    not_own : (j : ℕ) (l : NamedLine) → slice_get lines j ≡ Some l → (l.node == n) ≡ false → j ≡ i → ⊥
-    not_own j l get other same =
-        let both : Some line ≡ Some l = sym at ∙ (ap (slice_get lines) (sym same) ∙ get) in
-        let it : line ≡ l = cc in
-        let is : (l.node == n) ≡ true = eq-eqb l.node n (ap (λ (m : NamedLine). m.node) (sym it) ∙ own) in
-        let clash : true ≡ false = sym is ∙ other in
-        cc

@@ -1,5 +1,5 @@
 -- Whose the events of a phase are.
-use Rattle.std.proofs.Common.{◌≡◌, refl, sym, ap, ◌∙◌, subst, ◌⊎◌, inl, inr, ⊎_elim, ℕ, zero, suc, ◌+◌, ◌<◌, ◌≤◌, List, [], ◌∷◌, ◌++◌, length, arith, append_assoc, append-nil}
+use Rattle.std.proofs.Common.{◌≡◌, refl, sym, ap, ◌∙◌, subst, ◌⊎◌, inl, inr, ⊎_elim, ℕ, zero, suc, ◌+◌, ◌<◌, ◌≤◌, List, [], ◌∷◌, ◌++◌, length, arith, append-nil}
 use Rattle.std.specs.Prelude.{Contains, get_or}
 use Rattle.legal_journal.specs.declared.events.Event.{Event}
 use Rattle.turn_scopes.specs.Alone.{AreOwn, OwnSince}
@@ -35,7 +35,7 @@ module _ {A : Type 0} where
   among_parts (z ∷ xs) ys x (inr later) = ⊎_elim (λ (h : Among xs x). inl (inr h)) (λ (h : Among ys x). inr h) (among_parts xs ys x later)
 
 -- the events of one node are all its own
-own_who : (who : ℕ) (es : List Event) (e : Event) → AreOwn who es → Among es e → e.who ≡ who
+pub own_who : (who : ℕ) (es : List Event) (e : Event) → AreOwn who es → Among es e → e.who ≡ who
 own_who who [] e own m = absurd m
 own_who who (x ∷ es) e own (inl same) = ap (λ (y : Event). y.who) (sym same) ∙ own.0
 own_who who (x ∷ es) e own (inr later) = own_who who es e own.1 later
@@ -45,17 +45,6 @@ own_who who (x ∷ es) e own (inr later) = own_who who es e own.1 later
 -- nothing happened
 pub at_work_none : (lines : List NamedLine) (phase : ℕ) (journal : List Event) → AreAtWork lines phase journal journal
 at_work_none lines phase journal = record { more = []; seen = sym (append-nil journal); each = λ e has. absurd (contained-among [] e has) }
-
--- a node with a line of the phase had events
-pub at_work_more : (lines : List NamedLine) (phase n : ℕ) (old mid new : List Event) → AreAtWork lines phase old mid → HasLineIn lines phase n → OwnSince n mid new → AreAtWork lines phase old new
-at_work_more lines phase n old mid new h line since = record {
-  more = h.more ++ since.more;
-  seen = since.seen ∙ ap (λ l. l ++ since.more) h.seen ∙ append_assoc old h.more since.more;
-  each = λ e has. ⊎_elim
-      (λ (was : Among h.more e). h.each e (contains-among h.more e was))
-      (λ (now : Among since.more e). subst (HasLineIn lines phase) (sym (own_who n since.more e since.own now)) line)
-      (among_parts h.more since.more e (contained-among (h.more ++ since.more) e has));
-}
 
 -- a line from `from` up to `to` is of the phase whose lines those are
 pub has_line_in : (lines : List NamedLine) (from to phase n : ℕ) → BeginsAt lines from phase → BeginsAt lines to (phase + 1) → HasOne lines from to n → HasLineIn lines phase n
@@ -75,14 +64,6 @@ pub worked_before : (lines : List NamedLine) (phase : ℕ) (begins : List (List 
 worked_before lines phase begins journal journal' p long over h =
     subst (λ j. AreAtWork lines p j (get_or begins (p + 1) journal')) (get_within begins p journal journal' (omega (arith, long, over)))
     (subst (AreAtWork lines p (get_or begins p journal)) (get_within begins (p + 1) journal journal' (omega (arith, long, over))) h)
-
--- the present phase goes on by events of a node with a line in it
-pub worked_now : (lines : List NamedLine) (phase n : ℕ) (begins : List (List Event)) (journal journal' : List Event) → length begins ≡ phase + 1 → HasLineIn lines phase n → OwnSince n journal journal'
-    → AreAtWork lines phase (get_or begins phase journal) (get_or begins (phase + 1) journal) → AreAtWork lines phase (get_or begins phase journal') (get_or begins (phase + 1) journal')
-worked_now lines phase n begins journal journal' long line since h =
-    subst (λ j. AreAtWork lines phase j (get_or begins (phase + 1) journal')) (get_within begins phase journal journal' (omega (arith, long)))
-    (subst (AreAtWork lines phase (get_or begins phase journal)) (sym (get_beyond begins (phase + 1) journal' (omega (arith, long))))
-    (at_work_more lines phase n (get_or begins phase journal) journal journal' (subst (AreAtWork lines phase (get_or begins phase journal)) (get_beyond begins (phase + 1) journal (omega (arith, long))) h) line since))
 
 -- Seals
 

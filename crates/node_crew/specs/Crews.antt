@@ -1,11 +1,9 @@
 -- All nodes of a run.
-use Rattle.std.specs.Prelude.{◌≡◌, ℕ, ◌+◌, ◌<◌, ◌≤◌, true, List, ◌++◌, length, get_or, Contains, slice_get, Option, Some}
-use Rattle.delos_types.specs.Spaces.{SpaceMap}
-use Rattle.delos_types.specs.declared.entry.Entry.{Entry}
+use Rattle.std.specs.Prelude.{◌≡◌, ℕ, ◌+◌, ◌≤◌, true, List, ◌++◌, length, get_or, Contains, slice_get, Option, Some}
 use Rattle.legal_journal.specs.Law.{Law}
 use Rattle.legal_journal.specs.declared.events.Event.{Event}
 use Rattle.legal_journal.specs.Sealing.{begins_seal}
-use Rattle.replica_api.specs.Replica.{Saved}
+use Rattle.replica_api.specs.Replica.{Meaning}
 use Rattle.script_text.specs.declared.asks.NamedLine.{NamedLine}
 use Rattle.turn_scopes.specs.Seats.{SeatView, SeatOk}
 use Rattle.node_lines.specs.declared.desk.Desk.{Desk}
@@ -14,11 +12,6 @@ use Rattle.node_course.specs.Script.{AreLines, BeginsAt}
 use Rattle.node_course.specs.Moments.{NodeCourse}
 use Rattle.node_course.specs.Telling.{AreBehind}
 use Rattle.node_course.specs.Workers.{Rests}
-
--- the lines from `from` up to `to` aren't of a later phase, and the next one is
-pub record EndsPhase (lines : List NamedLine) (from to phase : ℕ) : Type 0 where
-  pub inside : (i : ℕ) (l : NamedLine) → from ≤ i → i < to → slice_get lines i ≡ Some l → l.phase ≤ phase
-  pub next : (l : NamedLine) → slice_get lines to ≡ Some l → phase < l.phase
 
 -- a line of the phase is node n's
 pub record HasLineIn (lines : List NamedLine) (phase n : ℕ) : Type 0 where
@@ -51,7 +44,7 @@ pub record HasSeenAll (phase : ℕ) (begins : List (List Event)) (journal : List
 
 -- Between two phases: the lines of `phase` and of later ones begin at `from`. Each node has a course of its own, by its number, and
 -- has seen all of the run. A worker is seen by its seat and its desks; the nodes are numbered from 1.
-pub record CrewRests {A : Type 0} (law : Law) (state : List Entry → SpaceMap → Type 0) (spells : List ℕ → Saved → Type 0) (lines : List NamedLine) (from phase : ℕ) (journal : List Event) (looks : List (Option Looked)) (seat : A → SeatView) (desks : A → List Desk) (workers : List A) : Type 0 where
+pub record CrewRests {A : Type 0} (law : Law) (meaning : Meaning) (lines : List NamedLine) (from phase : ℕ) (journal : List Event) (looks : List (Option Looked)) (seat : A → SeatView) (desks : A → List Desk) (workers : List A) : Type 0 where
   pub home : ℕ → ℕ
   pub courses : ℕ → NodeCourse
   pub begins : List (List Event)
@@ -62,11 +55,11 @@ pub record CrewRests {A : Type 0} (law : Law) (state : List Entry → SpaceMap �
   pub seals : SealsOfNodes (length workers) journal
   pub behind : AreBehind journal
   pub seen : (n : ℕ) → 1 ≤ n → n ≤ length workers → HasSeenAll phase begins journal (courses n)
-  pub each : (j : ℕ) (w : A) → slice_get workers j ≡ Some w → Rests law state spells lines home (length workers) (courses (j + 1)) looks (j + 1) from phase (seat w) (desks w)
+  pub each : (j : ℕ) (w : A) → slice_get workers j ≡ Some w → Rests law meaning lines home (length workers) (courses (j + 1)) looks (j + 1) from phase (seat w) (desks w)
 
--- In a phase, whose lines are those from `from` up to `to`: the first k nodes have had their turn, the others not yet. All have seen
--- all of the run.
-pub record CrewAt {A : Type 0} (law : Law) (state : List Entry → SpaceMap → Type 0) (spells : List ℕ → Saved → Type 0) (lines : List NamedLine) (from to k : ℕ) (journal : List Event) (looks : List (Option Looked)) (seat : A → SeatView) (desks : A → List Desk) (workers : List A) : Type 0 where
+-- A phase has ended, whose lines are those from `from` up to `to`, and the next one hasn't begun: each node has played its lines of it, and
+-- has seen all of the run.
+pub record CrewEnds {A : Type 0} (law : Law) (meaning : Meaning) (lines : List NamedLine) (from to : ℕ) (journal : List Event) (looks : List (Option Looked)) (seat : A → SeatView) (desks : A → List Desk) (workers : List A) : Type 0 where
   pub home : ℕ → ℕ
   pub courses : ℕ → NodeCourse
   pub phase : ℕ
@@ -79,9 +72,8 @@ pub record CrewAt {A : Type 0} (law : Law) (state : List Entry → SpaceMap → 
   pub seals : SealsOfNodes (length workers) journal
   pub behind : AreBehind journal
   pub seen : (n : ℕ) → 1 ≤ n → n ≤ length workers → HasSeenAll phase begins journal (courses n)
-  pub had : (j : ℕ) (w : A) → j < k → slice_get workers j ≡ Some w → Rests law state spells lines home (length workers) (courses (j + 1)) looks (j + 1) to (phase + 1) (seat w) (desks w)
-  pub waits : (j : ℕ) (w : A) → k ≤ j → slice_get workers j ≡ Some w → Rests law state spells lines home (length workers) (courses (j + 1)) looks (j + 1) from phase (seat w) (desks w)
+  pub each : (j : ℕ) (w : A) → slice_get workers j ≡ Some w → Rests law meaning lines home (length workers) (courses (j + 1)) looks (j + 1) to (phase + 1) (seat w) (desks w)
 
 -- each node can take the fabric with this journal
-abbrev pub CrewStands : {A : Type 0} → Law → (List Entry → SpaceMap → Type 0) → (List ℕ → Saved → Type 0) → List Event → (A → SeatView) → List A → Type 0
-CrewStands {A} law state spells journal seat workers = (j : ℕ) (w : A) → slice_get workers j ≡ Some w → SeatOk law state spells journal (seat w)
+abbrev pub CrewStands : {A : Type 0} → Law → Meaning → List Event → (A → SeatView) → List A → Type 0
+CrewStands {A} law meaning journal seat workers = (j : ℕ) (w : A) → slice_get workers j ≡ Some w → SeatOk law meaning journal (seat w)

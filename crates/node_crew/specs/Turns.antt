@@ -1,10 +1,9 @@
 -- A node's turn in a phase.
-use Rattle.std.specs.Prelude.{◌≡◌, ◌≢◌, ◌⊎◌, ℕ, ◌+◌, ◌<◌, ◌≤◌, ◌==◌, false, List, length, slice_get, Option, Some}
-use Rattle.delos_types.specs.Spaces.{SpaceMap}
+use Rattle.std.specs.Prelude.{◌≡◌, ◌⊎◌, ℕ, ◌+◌, ◌<◌, ◌≤◌, ◌==◌, false, List, slice_get, Option, Some}
 use Rattle.delos_types.specs.declared.entry.Entry.{Entry}
 use Rattle.legal_journal.specs.Law.{Law}
 use Rattle.legal_journal.specs.declared.events.Event.{Event}
-use Rattle.replica_api.specs.Replica.{Saved}
+use Rattle.replica_api.specs.Replica.{Meaning}
 use Rattle.script_text.specs.declared.asks.NamedLine.{NamedLine}
 use Rattle.turn_scopes.specs.Seats.{SeatView, node_of}
 use Rattle.node_lines.specs.declared.desk.Desk.{Desk}
@@ -33,31 +32,21 @@ pub record HasOne (lines : List NamedLine) (from to n : ℕ) : Type 0 where
   pub node : line.node ≡ n
 
 -- It is the turn of node n, whose lines up to `at` were played, by its own course; those of the present phase begin at `from`.
-pub record IsUnderWay (law : Law) (state : List Entry → SpaceMap → Type 0) (spells : List ℕ → Saved → Type 0) (lines : List NamedLine) (home : ℕ → ℕ) (nodes : ℕ) (c : NodeCourse) (looks : List (Option Looked)) (n from at : ℕ) (journal : List Event) (seat : SeatView) (desks : List Desk) : Type 0 where
+pub record IsUnderWay (law : Law) (meaning : Meaning) (lines : List NamedLine) (home : ℕ → ℕ) (nodes : ℕ) (c : NodeCourse) (looks : List (Option Looked)) (n from at : ℕ) (journal : List Event) (seat : SeatView) (desks : List Desk) : Type 0 where
   pub seen_is : c.seen ≡ journal
   pub lines_are : AreLines lines home nodes
   pub begins : BeginsAt lines from c.phase
-  pub node : NodeAt law state spells lines home nodes c looks n from at c.phase seat desks
+  pub node : NodeAt law meaning lines home nodes c looks n from at c.phase seat desks
 
 -- It is the turn of node n in a phase, whose lines are those from `from` up to `to`. None of them was played, and one is the node's.
-pub record IsPlaying (law : Law) (state : List Entry → SpaceMap → Type 0) (spells : List ℕ → Saved → Type 0) (lines : List NamedLine) (looks : List (Option Looked)) (n from to : ℕ) (journal : List Event) (seat : SeatView) (desks : List Desk) : Type 0 where
+pub record IsPlaying (law : Law) (meaning : Meaning) (lines : List NamedLine) (looks : List (Option Looked)) (n from to : ℕ) (journal : List Event) (seat : SeatView) (desks : List Desk) : Type 0 where
   pub home : ℕ → ℕ
   pub nodes : ℕ
   pub course : NodeCourse
   pub ends : BeginsAt lines to (course.phase + 1)
   pub one : HasOne lines from to n
-  pub now : IsUnderWay law state spells lines home nodes course looks n from from journal seat desks
+  pub now : IsUnderWay law meaning lines home nodes course looks n from from journal seat desks
 
 -- The phase can end at the node: the log is kept from where it is, or the answers of all its sessions were taken.
 abbrev pub CanEnd : (ℕ → ℕ → Type 0) → (List Entry → ℕ → Type 0) → List Event → SeatView → List Desk → Type 0
 CanEnd beside floor journal seat desks = IsKept beside floor seat journal ⊎ AllAnswered (node_of seat journal) desks
-
--- What the lines' own looks came to is kept, but for line i's.
-pub record KeepsBut (i : ℕ) (old new : List (Option Looked)) : Type 0 where
-  pub size : length new ≡ length old
-  pub others : (j : ℕ) → j ≢ i → slice_get new j ≡ slice_get old j
-
--- .. but for those of node n's lines
-pub record KeepsOthers (lines : List NamedLine) (n : ℕ) (old new : List (Option Looked)) : Type 0 where
-  pub size : length new ≡ length old
-  pub others : (i : ℕ) (l : NamedLine) → slice_get lines i ≡ Some l → (l.node == n) ≡ false → slice_get new i ≡ slice_get old i

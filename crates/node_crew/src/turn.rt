@@ -1,5 +1,5 @@
 //! A node's lines of a phase, and the phase's end there.
-ghost use Rattle.std.specs.Prelude.{◌≡◌, ◌<◌, ◌≤◌, ◌+◌, ℕ, length, OnOk};
+ghost use Rattle.std.specs.Prelude.{◌≡◌, ◌<◌, ◌≤◌, ◌+◌, ℕ, List, Option, length, OnOk};
 ghost use Rattle.turn_scopes.specs.Beside.{Since};
 ghost use Rattle.turn_scopes.specs.Floors.{FloorIs};
 ghost use Rattle.turn_scopes.specs.Seats.{SeatOk};
@@ -7,12 +7,14 @@ ghost use Rattle.node_lines.specs.Workers.{MayRun};
 ghost use Rattle.node_course.specs.Script.{BeginsAt};
 ghost use Rattle.node_course.specs.Moments.{NodeCourse};
 ghost use Rattle.node_course.specs.Workers.{LineWent, HasRested};
-ghost use Rattle.node_crew.specs.Turns.{IsPlaying, IsUnderWay, CanEnd, KeepsOthers, MaySendAll};
+ghost use Rattle.node_lines.specs.declared.lines.Looked.{Looked};
+ghost use Rattle.node_crew.specs.Notes.{AreNotesOf, noted};
+ghost use Rattle.node_crew.specs.Turns.{IsPlaying, IsUnderWay, CanEnd, MaySendAll};
 
 use crate::line::play_line;
+use crate::note::Note;
 use delos_types::numbers::NodeId;
 use fate_words::chooser::Chooser;
-use node_lines::lines::Looked;
 use node_workers::back::Back;
 use node_workers::turns::end_phase;
 use node_workers::worker::Worker;
@@ -26,7 +28,7 @@ fn play_lines<A: Access, S: Replica, C: Chooser>(
     alloc: Global,
     access: A,
     worker: Worker<S, C>,
-    looks: &mut Vec<Option<Looked>>,
+    notes: &mut Vec<Note>,
     node: NodeId,
     lines: &[NamedLine],
     from: usize,
@@ -38,15 +40,16 @@ fn play_lines<A: Access, S: Replica, C: Chooser>(
     requires range { (from ≤ to) × (to ≤ length lines.now) }
     requires sends { MaySendAll A.Law.law.may lines.now }
     requires floor { FloorIs A.Law.law.floor worker.seat.node.nodes }
-    requires playing { IsPlaying A.Law.law S.state S.spells lines.now looks.old.items node from to (A.seen access) worker.seat worker.desks.items }
-    ensures goes { (home : ℕ → ℕ) (nodes : ℕ) (c : NodeCourse)
-        → IsUnderWay A.Law.law S.state S.spells lines.now home nodes c looks.old.items node from from (A.seen access) worker.seat worker.desks.items → BeginsAt lines.now to (c.phase + 1)
-        → OnOk result.answer (LineWent A.Law.law S.state S.spells lines.now home nodes c looks.new.items node from to (A.seen result.access) result.part.seat result.part.desks.items) }
-    ensures keeps { OnOk result.answer (KeepsOthers lines.now node looks.old.items looks.new.items) }
+    requires playing { (looks : List (Option Looked)) × IsPlaying A.Law.law S.meaning lines.now (noted looks notes.old.items) node from to (A.seen access) worker.seat worker.desks.items }
+    requires own { AreNotesOf lines.now node notes.old.items }
+    ensures goes { (home : ℕ → ℕ) (nodes : ℕ) (c : NodeCourse) (looks : List (Option Looked))
+        → IsUnderWay A.Law.law S.meaning lines.now home nodes c (noted looks notes.old.items) node from from (A.seen access) worker.seat worker.desks.items → BeginsAt lines.now to (c.phase + 1)
+        → OnOk result.answer (LineWent A.Law.law S.meaning lines.now home nodes c (noted looks notes.new.items) node from to (A.seen result.access) result.part.seat result.part.desks.items) }
+    ensures own { AreNotesOf lines.now node notes.new.items }
 
     // The phase can end then.
     ensures ends { OnOk result.answer (CanEnd A.beside A.Law.law.floor (A.seen result.access) result.part.seat result.part.desks.items) }
-    ensures stands { SeatOk A.Law.law S.state S.spells (A.seen result.access) result.part.seat }
+    ensures stands { SeatOk A.Law.law S.meaning (A.seen result.access) result.part.seat }
     ensures since { Since worker.seat.who (A.beside worker.seat.who) (A.seen access) (A.seen result.access) }
     ensures who { result.part.seat.who ≡ worker.seat.who }
     ensures whose { A.who result.access ≡ A.who access }
@@ -60,7 +63,7 @@ fn play_lines<A: Access, S: Replica, C: Chooser>(
                 part: played,
                 access: rest,
                 answer,
-            } = play_line(alloc, access, worker, looks, i, line);
+            } = play_line(alloc, access, worker, notes, i, line);
             worker = played;
             access = rest;
             match answer {
@@ -87,7 +90,7 @@ pub fn play_turn<A: Access, S: Replica, C: Chooser>(
     alloc: Global,
     access: A,
     worker: Worker<S, C>,
-    looks: &mut Vec<Option<Looked>>,
+    notes: &mut Vec<Note>,
     node: NodeId,
     lines: &[NamedLine],
     from: usize,
@@ -99,12 +102,13 @@ pub fn play_turn<A: Access, S: Replica, C: Chooser>(
     requires range { (from ≤ to) × (to ≤ length lines.now) }
     requires sends { MaySendAll A.Law.law.may lines.now }
     requires floor { FloorIs A.Law.law.floor worker.seat.node.nodes }
-    requires playing { IsPlaying A.Law.law S.state S.spells lines.now looks.old.items node from to (A.seen access) worker.seat worker.desks.items }
-    ensures goes { (home : ℕ → ℕ) (nodes : ℕ) (c : NodeCourse)
-        → IsUnderWay A.Law.law S.state S.spells lines.now home nodes c looks.old.items node from from (A.seen access) worker.seat worker.desks.items → BeginsAt lines.now to (c.phase + 1)
-        → OnOk result.answer (HasRested A.Law.law S.state S.spells lines.now home nodes c looks.new.items node to (c.phase + 1) (A.seen result.access) result.part.seat result.part.desks.items) }
-    ensures keeps { OnOk result.answer (KeepsOthers lines.now node looks.old.items looks.new.items) }
-    ensures stands { SeatOk A.Law.law S.state S.spells (A.seen result.access) result.part.seat }
+    requires playing { (looks : List (Option Looked)) × IsPlaying A.Law.law S.meaning lines.now (noted looks notes.old.items) node from to (A.seen access) worker.seat worker.desks.items }
+    requires own { AreNotesOf lines.now node notes.old.items }
+    ensures goes { (home : ℕ → ℕ) (nodes : ℕ) (c : NodeCourse) (looks : List (Option Looked))
+        → IsUnderWay A.Law.law S.meaning lines.now home nodes c (noted looks notes.old.items) node from from (A.seen access) worker.seat worker.desks.items → BeginsAt lines.now to (c.phase + 1)
+        → OnOk result.answer (HasRested A.Law.law S.meaning lines.now home nodes c (noted looks notes.new.items) node to (c.phase + 1) (A.seen result.access) result.part.seat result.part.desks.items) }
+    ensures own { AreNotesOf lines.now node notes.new.items }
+    ensures stands { SeatOk A.Law.law S.meaning (A.seen result.access) result.part.seat }
     ensures since { Since worker.seat.who (A.beside worker.seat.who) (A.seen access) (A.seen result.access) }
     ensures who { result.part.seat.who ≡ worker.seat.who }
     ensures whose { A.who result.access ≡ A.who access }
@@ -113,7 +117,7 @@ pub fn play_turn<A: Access, S: Replica, C: Chooser>(
         part: worker,
         access,
         answer,
-    } = play_lines(alloc, access, worker, looks, node, lines, from, to);
+    } = play_lines(alloc, access, worker, notes, node, lines, from, to);
     match answer {
         Ok(()) => {}
         Err(fault) => {

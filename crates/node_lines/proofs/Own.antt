@@ -1,5 +1,5 @@
 -- Who began to append what.
-use Rattle.std.proofs.Common.{◌≡◌, ◌⊎◌, inl, inr, refl, sym, ap, ◌∙◌, subst, ⊎_elim, ℕ, Bool, true, false, cond, List, [], ◌∷◌, ◌++◌, length, Option, Some, None, arith}
+use Rattle.std.proofs.Common.{◌≡◌, ◌⊎◌, inl, inr, refl, sym, ap, ◌∙◌, subst, ⊎_elim, ℕ, suc, ◌<◌, Bool, true, false, cond, List, [], ◌∷◌, ◌++◌, length, Option, Some, None, arith}
 use Rattle.std.specs.Prelude.{Contains, ◌==◌}
 use Rattle.std.specs.List.{cons_option}
 use Rattle.std.proofs.lemmas.Bool.Decides.{nat_tests}
@@ -96,9 +96,20 @@ own_stays who (x ∷ xs) b e h =
     (λ (k : Contains (appended_by who xs) e). own_at_later who x (xs ++ b) e (own_stays who xs b e k))
     (own_first_or_later who x xs e h)
 
-own_more : (who : ℕ) (a b : List Event) (e : Entry) → Contains (appended_by who b) e → Contains (appended_by who (a ++ b)) e
+pub own_more : (who : ℕ) (a b : List Event) (e : Entry) → Contains (appended_by who b) e → Contains (appended_by who (a ++ b)) e
 own_more who [] b e h = h
 own_more who (x ∷ xs) b e h = own_at_later who x (xs ++ b) e (own_more who xs b e h)
+
+-- what was appended somebody appended, by one of the events
+pub some_begun : (es : List Event) (x : Entry) → Contains (appended es) x → (e : Event) × Contains es e × Contains (appended_by e.who es) x
+some_begun [] x h = absurd (none_in x h)
+some_begun (e ∷ es) x h =
+    ⊎_elim
+    (λ (begun : entry_begun e.call e.answer ≡ Some x). (e, (0, omega arith, refl), own_at_first e.who e es x refl begun))
+    (λ (later : Contains (appended es) x).
+    let r = some_begun es x later in
+    (r.0, (suc r.1.0, omega (arith, r.1.1), r.1.2), own_at_later r.0.who e es x r.2))
+    (first_or_later e es x h)
 
 -- What who adds
 

@@ -10,7 +10,10 @@ use Rattle.engine_api.specs.declared.content.Placed.{Placed}
 use Rattle.engine_api.specs.Acted.{unpack_all}
 use Rattle.engine_api.specs.Members.{has_left, least_position, position_of}
 use Rattle.log_laws.proofs.Membership.{least_some, left_says, position_says, unpack_says}
-use Rattle.node_lines.specs.Workers.{HasNotLeft, IsReported, IsSaid, ReportsUpTo}
+use Rattle.virtual_log.specs.Holding.{Holds}
+use Rattle.base_engine.specs.Reading.{IsFront}
+use Rattle.node_lines.specs.Workers.{HasNotLeft, IsHeld, IsHeldReport, IsReported, IsSaid, ReportsUpTo}
+use Rattle.node_lines.proofs.Cleaning.{at_index}
 
 module _ (seen : List Event) (log : List Entry) (each : (e : Entry) → Contains log e → Contains (appended seen) e) where
   said : (p : Placed) (c : Content) → Contains (unpack_all 0 log) p → p.content ≡ c → IsSaid seen c
@@ -49,5 +52,27 @@ module _ (seen : List Event) (log : List Entry) (each : (e : Entry) → Contains
       (λ (none : position_of (unpack_all 0 log) first.node ≡ 0). inl (first.is ∙ none))
       (λ (s : IsSaid seen (content.Alive first.node (position_of (unpack_all 0 log) first.node))). inr (first.node, subst (λ n. IsSaid seen (content.Alive first.node n)) (sym first.is) s))
       (position_said first.node))
+      (λ (none : least_position nodes (unpack_all 0 log) ≤ 0). inl (omega (arith, none)))
+      (cases_lt 0 (least_position nodes (unpack_all 0 log)))
+
+-- What a front of the log says, the log holds
+
+module _ (seen : List Event) (log : List Entry) (front : IsFront Holds seen log) where
+  held_so : (p : Placed) (c : Content) → Contains (unpack_all 0 log) p → p.content ≡ c → IsHeld seen c
+  held_so p c h is =
+      let u = unpack_says log p h in
+      let at = u.1 in
+      record { at = at.0; entry = u.0; held = front at.0 u.0 (at_index log at.0 u.0 at.1 at.2); placed = u.2; among = u.3; is = u.4 ∙ is }
+
+  -- of the least position of a member the log holds a report
+  pub least_held : (nodes : ℕ) → IsHeldReport seen (least_position nodes (unpack_all 0 log))
+  least_held nodes = ⊎_elim
+      (λ (some : 0 < least_position nodes (unpack_all 0 log)).
+      let first = least_some nodes (unpack_all 0 log) some in
+      ⊎_elim
+      (λ (none : position_of (unpack_all 0 log) first.node ≡ 0). inl (first.is ∙ none))
+      (λ (p : (p : Placed) × Contains (unpack_all 0 log) p × (p.content ≡ content.Alive first.node (position_of (unpack_all 0 log) first.node))).
+      inr (first.node, subst (λ n. IsHeld seen (content.Alive first.node n)) (sym first.is) (held_so p.0 (content.Alive first.node (position_of (unpack_all 0 log) first.node)) p.1 p.2)))
+      (position_says (unpack_all 0 log) first.node))
       (λ (none : least_position nodes (unpack_all 0 log) ≤ 0). inl (omega (arith, none)))
       (cases_lt 0 (least_position nodes (unpack_all 0 log)))

@@ -2,14 +2,13 @@
 use Rattle.std.proofs.Common.{◌≡◌, refl, sym, subst, ⊎_elim, ◌⊎◌, inl, inr, ℕ, ◌≤◌, List, []}
 use Rattle.std.specs.Prelude.{All, Contains, Result, Ok, Err, IfOk, OnOk}
 use Rattle.std.proofs.lemmas.List.Elements.{All-nil}
-use Rattle.delos_types.specs.Spaces.{SpaceMap}
 use Rattle.delos_types.specs.declared.entry.Entry.{Entry}
 use Rattle.legal_journal.specs.Law.{Law}
 use Rattle.legal_journal.specs.declared.events.Event.{Event}
 use Rattle.legal_journal.specs.Journal.{IsLegal}
 use Rattle.journal_laws.specs.Changes.{TrimsUpTo}
 use Rattle.journal_laws.proofs.Changes.{legal_by, upto_low, upto_more, below_low}
-use Rattle.replica_api.specs.Replica.{Saved}
+use Rattle.replica_api.specs.Replica.{Meaning}
 use Rattle.base_engine.specs.Settling.{MaySend}
 use Rattle.turn_scopes.specs.Beside.{Since, SealsByRight}
 use Rattle.turn_scopes.specs.Seats.{SeatView, SeatOk}
@@ -56,12 +55,12 @@ module _ (law : Law) (so : Type 0) (is : so) where
   kept_by beside m new b up legal keeps = record { high = high_low m b.node.replica.cursor new up legal; keeps = keeps }
 
 module _ (law : Law) where
-  module _ (me : ℕ) (counts : List ℕ) (state : List Entry → SpaceMap → Type 0) (spells : List ℕ → Saved → Type 0) where
+  module _ (me : ℕ) (counts : List ℕ) (meaning : Meaning) where
     -- A seat as a scope begins: if the scope is bound, nothing was trimmed above where it is.
-    pub seat_begins : (so : Type 0) (m : ℕ) (journal : List Event) (s : SeatView) → (so → TrimsUpTo m journal) → SeatOk (record law { may = Sends me law.may counts journal }) state spells journal s → SeatOk (record law { may = Sends me law.may counts journal; floor = UpToIf so law.floor m }) state spells journal s
+    pub seat_begins : (so : Type 0) (m : ℕ) (journal : List Event) (s : SeatView) → (so → TrimsUpTo m journal) → SeatOk (record law { may = Sends me law.may counts journal }) meaning journal s → SeatOk (record law { may = Sends me law.may counts journal; floor = UpToIf so law.floor m }) meaning journal s
     seat_begins so m journal s high h = seat_free (legal_by (record law { may = Sends me law.may counts journal }) (Sends me law.may counts journal) (UpToIf so law.floor m) journal h.node.legal (λ who e _ k. k) (λ log n raised free. (free, λ is. high is n raised)))
       where
-        seat_free : IsLegal (record law { may = Sends me law.may counts journal; floor = UpToIf so law.floor m }) journal → SeatOk (record law { may = Sends me law.may counts journal; floor = UpToIf so law.floor m }) state spells journal s
+        seat_free : IsLegal (record law { may = Sends me law.may counts journal; floor = UpToIf so law.floor m }) journal → SeatOk (record law { may = Sends me law.may counts journal; floor = UpToIf so law.floor m }) meaning journal s
         seat_free legal = record {
           shelf_is = h.shelf_is;
           goes_by = h.goes_by;
@@ -77,16 +76,16 @@ module _ (law : Law) where
         }
 
     -- .. of a scope that tells something
-    pub seat_tells : (so : Type 0) (m : ℕ) (journal : List Event) (told : Entry) (s : SeatView) → (so → TrimsUpTo m journal) → SeatOk (record law { may = Sends me law.may counts journal }) state spells journal s → SeatOk (record law { may = SendsToo me law.may counts journal told; floor = UpToIf so law.floor m }) state spells journal s
+    pub seat_tells : (so : Type 0) (m : ℕ) (journal : List Event) (told : Entry) (s : SeatView) → (so → TrimsUpTo m journal) → SeatOk (record law { may = Sends me law.may counts journal }) meaning journal s → SeatOk (record law { may = SendsToo me law.may counts journal told; floor = UpToIf so law.floor m }) meaning journal s
     seat_tells so m journal told s high h =
-        seat_wider (record law { may = Sends me law.may counts journal; floor = UpToIf so law.floor m }) (record law { may = SendsToo me law.may counts journal told; floor = UpToIf so law.floor m }) (record { may = λ user e k. sends_too me law.may counts journal told user e k; floor = λ log n k. k; shelf = refl }) state spells journal s (seat_begins so m journal s high h)
+        seat_wider (record law { may = Sends me law.may counts journal; floor = UpToIf so law.floor m }) (record law { may = SendsToo me law.may counts journal told; floor = UpToIf so law.floor m }) (record { may = λ user e k. sends_too me law.may counts journal told user e k; floor = λ log n k. k; shelf = refl }) meaning journal s (seat_begins so m journal s high h)
 
     -- A seat as a scope ends.
-    pub seat_ends : (so : Type 0) (m : ℕ) (old new : List Event) (s : SeatView) → Grows old new → SeatOk (record law { may = Sends me law.may counts old; floor = UpToIf so law.floor m }) state spells new s → SeatOk (record law { may = Sends me law.may counts new }) state spells new s
-    seat_ends so m old new s g h = seat_wider (record law { may = Sends me law.may counts old; floor = UpToIf so law.floor m }) (record law { may = Sends me law.may counts new }) (record { may = λ user e k. sends_grow me law.may counts old new g user e k; floor = λ log n k. k.0; shelf = refl }) state spells new s h
+    pub seat_ends : (so : Type 0) (m : ℕ) (old new : List Event) (s : SeatView) → Grows old new → SeatOk (record law { may = Sends me law.may counts old; floor = UpToIf so law.floor m }) meaning new s → SeatOk (record law { may = Sends me law.may counts new }) meaning new s
+    seat_ends so m old new s g h = seat_wider (record law { may = Sends me law.may counts old; floor = UpToIf so law.floor m }) (record law { may = Sends me law.may counts new }) (record { may = λ user e k. sends_grow me law.may counts old new g user e k; floor = λ log n k. k.0; shelf = refl }) meaning new s h
 
     -- .. of one that told something: nothing is outstanding, and nothing waits
-    pub seat_told : (so : Type 0) (m : ℕ) (old new : List Event) (told : Entry) (s : SeatView) → s.node.outbox.entries ≡ [] → s.node.replica.kept ≡ [] → SeatOk (record law { may = SendsToo me law.may counts old told; floor = UpToIf so law.floor m }) state spells new s → SeatOk (record law { may = Sends me law.may counts new }) state spells new s
+    pub seat_told : (so : Type 0) (m : ℕ) (old new : List Event) (told : Entry) (s : SeatView) → s.node.outbox.entries ≡ [] → s.node.replica.kept ≡ [] → SeatOk (record law { may = SendsToo me law.may counts old told; floor = UpToIf so law.floor m }) meaning new s → SeatOk (record law { may = Sends me law.may counts new }) meaning new s
     seat_told so m old new told s none kept h = record {
       shelf_is = h.shelf_is;
       goes_by = h.goes_by;
@@ -108,34 +107,34 @@ module _ (law : Law) where
             (λ user e there k. (k.0, λ same. inl (subst (λ u. Contains (appended_by u new) e) same there)))
 
     -- by the rules of the run alone
-    pub seat_allowed : (journal : List Event) (s : SeatView) → SeatOk (record law { may = Sends me law.may counts journal }) state spells journal s → SeatOk law state spells journal s
-    seat_allowed journal s h = seat_wider (record law { may = Sends me law.may counts journal }) law (record { may = λ who e k. k.0.0; floor = λ log n k. k; shelf = refl }) state spells journal s h
+    pub seat_allowed : (journal : List Event) (s : SeatView) → SeatOk (record law { may = Sends me law.may counts journal }) meaning journal s → SeatOk law meaning journal s
+    seat_allowed journal s h = seat_wider (record law { may = Sends me law.may counts journal }) law (record { may = λ who e k. k.0.0; floor = λ log n k. k; shelf = refl }) meaning journal s h
 
     pub left_by : (beside : ℕ → ℕ → Type 0) (right : ℕ → Type 0) (so : Type 0) (m : ℕ) (old new : List Event) (a b : SeatView) → b.who ≡ a.who → Since b.who (beside b.who) old new → SealsByRight (right b.who) b.who old new
-        → SeatOk (record law { may = Sends me law.may counts old; floor = UpToIf so law.floor m }) state spells new b → IsLeft law state spells beside (right a.who) old a new b
+        → SeatOk (record law { may = Sends me law.may counts old; floor = UpToIf so law.floor m }) meaning new b → IsLeft law meaning beside (right a.who) old a new b
     left_by beside right so m old new a b who since seals h = record {
-      stands = seat_wider (record law { may = Sends me law.may counts old; floor = UpToIf so law.floor m }) law (record { may = λ user e k. k.0.0; floor = λ log n k. k.0; shelf = refl }) state spells new b h;
+      stands = seat_wider (record law { may = Sends me law.may counts old; floor = UpToIf so law.floor m }) law (record { may = λ user e k. k.0.0; floor = λ log n k. k.0; shelf = refl }) meaning new b h;
       who = who;
       since = subst (λ w. Since w (beside w) old new) who since;
       seals = subst (λ w. SealsByRight (right w) w old new) who seals;
     }
 
     pub left_told : (beside : ℕ → ℕ → Type 0) (right : ℕ → Type 0) (so : Type 0) (m : ℕ) (old new : List Event) (told : Entry) (a b : SeatView) → b.who ≡ a.who → Since b.who (beside b.who) old new → SealsByRight (right b.who) b.who old new
-        → SeatOk (record law { may = SendsToo me law.may counts old told; floor = UpToIf so law.floor m }) state spells new b → IsLeft law state spells beside (right a.who) old a new b
+        → SeatOk (record law { may = SendsToo me law.may counts old told; floor = UpToIf so law.floor m }) meaning new b → IsLeft law meaning beside (right a.who) old a new b
     left_told beside right so m old new told a b who since seals h = record {
-      stands = seat_wider (record law { may = SendsToo me law.may counts old told; floor = UpToIf so law.floor m }) law (record { may = λ user e k. k.0.0; floor = λ log n k. k.0; shelf = refl }) state spells new b h;
+      stands = seat_wider (record law { may = SendsToo me law.may counts old told; floor = UpToIf so law.floor m }) law (record { may = λ user e k. k.0.0; floor = λ log n k. k.0; shelf = refl }) meaning new b h;
       who = who;
       since = subst (λ w. Since w (beside w) old new) who since;
       seals = subst (λ w. SealsByRight (right w) w old new) who seals;
     }
 
     -- a step was done
-    pub ok_by : (so : Type 0) (m : ℕ) (old new : List Event) (b : SeatView) → b.who ≡ me → Grows old new → SeatOk (record law { may = Sends me law.may counts old; floor = UpToIf so law.floor m }) state spells new b → SeatOk (record law { may = Sends b.who law.may counts new }) state spells new b
-    ok_by so m old new b who grows h = subst (λ w. SeatOk (record law { may = Sends w law.may counts new }) state spells new b) (sym who) (seat_ends so m old new b grows h)
+    pub ok_by : (so : Type 0) (m : ℕ) (old new : List Event) (b : SeatView) → b.who ≡ me → Grows old new → SeatOk (record law { may = Sends me law.may counts old; floor = UpToIf so law.floor m }) meaning new b → SeatOk (record law { may = Sends b.who law.may counts new }) meaning new b
+    ok_by so m old new b who grows h = subst (λ w. SeatOk (record law { may = Sends w law.may counts new }) meaning new b) (sym who) (seat_ends so m old new b grows h)
 
     pub ok_told : (so : Type 0) (m : ℕ) (old new : List Event) (told : Entry) (b : SeatView) → b.who ≡ me → b.node.outbox.entries ≡ [] → b.node.replica.kept ≡ []
-        → SeatOk (record law { may = SendsToo me law.may counts old told; floor = UpToIf so law.floor m }) state spells new b → SeatOk (record law { may = Sends b.who law.may counts new }) state spells new b
-    ok_told so m old new told b who none kept h = subst (λ w. SeatOk (record law { may = Sends w law.may counts new }) state spells new b) (sym who) (seat_told so m old new told b none kept h)
+        → SeatOk (record law { may = SendsToo me law.may counts old told; floor = UpToIf so law.floor m }) meaning new b → SeatOk (record law { may = Sends b.who law.may counts new }) meaning new b
+    ok_told so m old new told b who none kept h = subst (λ w. SeatOk (record law { may = Sends w law.may counts new }) meaning new b) (sym who) (seat_told so m old new told b none kept h)
 
 -- Of a call's answer
 

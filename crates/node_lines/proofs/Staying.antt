@@ -1,7 +1,6 @@
 -- A worker once others have had the fabric.
 use Rattle.std.proofs.Common.{refl, subst, inl, inr, ℕ, List, ◌++◌, arith}
 use Rattle.std.specs.Prelude.{Contains}
-use Rattle.delos_types.specs.Spaces.{SpaceMap}
 use Rattle.delos_types.specs.declared.entry.Entry.{Entry}
 use Rattle.delos_types.specs.declared.item.Item.{Item}
 use Rattle.legal_journal.specs.Law.{Law}
@@ -11,7 +10,7 @@ use Rattle.legal_journal.proofs.Legal.{goes_on}
 use Rattle.virtual_log.specs.Holding.{Holds}
 use Rattle.virtual_log.specs.Turning.{Later}
 use Rattle.virtual_log.proofs.Going.{goes_later}
-use Rattle.replica_api.specs.Replica.{Saved}
+use Rattle.replica_api.specs.Replica.{Meaning}
 use Rattle.base_engine.specs.Holding.{held_stays}
 use Rattle.base_engine.specs.Reading.{IsFront}
 use Rattle.base_engine.proofs.Following.{follows_later}
@@ -56,28 +55,28 @@ module _ (law : Law) (early more : List Event) (legal : IsLegal law (early ++ mo
     given = λ free none. let g = k.given free none in (g.0, given_later seat.node.outbox.entries seat.node.replica.kept s d.sent g.1);
   }
 
-  pub seat_later : (state : List Entry → SpaceMap → Type 0) (spells : List ℕ → Saved → Type 0) (s : SeatView) → SeatOk law state spells early s → SeatOk law state spells (early ++ more) s
-  seat_later state spells s h =
+  pub seat_later : (meaning : Meaning) (s : SeatView) → SeatOk law meaning early s → SeatOk law meaning (early ++ more) s
+  seat_later meaning s h =
       let on : Later law early (early ++ more) = record { more = more; seen = refl; legal = legal } in
       record {
         shelf_is = h.shelf_is;
         goes_by = goes_later law early (early ++ more) s.log.version s.log.known s.log.chain on h.goes_by;
-        node = ok_same law Holds state spells (node_of s early) (node_of s (early ++ more)) h.node legal refl
-            (follows_later law Holds state spells (held_stays law) early (early ++ more) s.node.replica on h.node.follows) h.node.bounded refl refl refl refl;
+        node = ok_same law Holds meaning (node_of s early) (node_of s (early ++ more)) h.node legal refl
+            (follows_later law Holds meaning (held_stays law) early (early ++ more) s.node.replica on h.node.follows) h.node.bounded refl refl refl refl;
       }
 
 -- What who sent meanwhile is none that its desks didn't send before; what others sent may be anything.
-pub worker_stays : (law : Law) (state : List Entry → SpaceMap → Type 0) (spells : List ℕ → Saved → Type 0) (who : ℕ) (early more : List Event) (seat : SeatView) (desks : List Desk)
-    → WorkerOk law state spells who early seat desks → IsLegal (record law { may = OwnWithin who law.may (sent_by desks) }) (early ++ more)
-    → WorkerOk law state spells who (early ++ more) seat desks
-worker_stays law state spells who early more seat desks h legal =
+pub worker_stays : (law : Law) (meaning : Meaning) (who : ℕ) (early more : List Event) (seat : SeatView) (desks : List Desk)
+    → WorkerOk law meaning who early seat desks → IsLegal (record law { may = OwnWithin who law.may (sent_by desks) }) (early ++ more)
+    → WorkerOk law meaning who (early ++ more) seat desks
+worker_stays law meaning who early more seat desks h legal =
     let counts = sent_by desks in
     record {
       who_is = h.who_is;
       origin = h.origin;
       ok = seat_later (record law { may = Sends who law.may counts (early ++ more) }) early more
-          (legal_own (record law { may = OwnWithin who law.may counts }) (Sends who law.may counts (early ++ more)) (early ++ more) legal (λ user e there k. (k, λ is. inl (subst (λ u. Contains (appended_by u (early ++ more)) e) is there)))) state spells seat
-          (seat_wider (record law { may = Sends who law.may counts early }) (record law { may = Sends who law.may counts (early ++ more) }) (record { may = λ user e k. sends_grow who law.may counts early (early ++ more) (more, refl) user e k; floor = λ log n k. k; shelf = refl }) state spells early seat h.ok);
+          (legal_own (record law { may = OwnWithin who law.may counts }) (Sends who law.may counts (early ++ more)) (early ++ more) legal (λ user e there k. (k, λ is. inl (subst (λ u. Contains (appended_by u (early ++ more)) e) is there)))) meaning seat
+          (seat_wider (record law { may = Sends who law.may counts early }) (record law { may = Sends who law.may counts (early ++ more) }) (record { may = λ user e k. sends_grow who law.may counts early (early ++ more) (more, refl) user e k; floor = λ log n k. k; shelf = refl }) meaning early seat h.ok);
       packs = h.packs;
       waits = h.waits;
       size = h.size;

@@ -2,7 +2,6 @@
 use Rattle.std.proofs.Common.{◌∙◌, ap, subst, ℕ, ◌≤◌, Bool, List, [], ◌++◌, Option, append_assoc, arith, length}
 use Rattle.std.specs.Prelude.{All}
 use Rattle.std.proofs.lemmas.List.Elements.{All-weaker}
-use Rattle.delos_types.specs.Spaces.{SpaceMap}
 use Rattle.delos_types.specs.declared.entry.Entry.{Entry}
 use Rattle.delos_types.specs.declared.item.Item.{Item}
 use Rattle.delos_types.specs.declared.cause.Cause.{Cause}
@@ -11,7 +10,7 @@ use Rattle.legal_journal.specs.Law.{Law}
 use Rattle.legal_journal.specs.declared.events.Event.{Event}
 use Rattle.legal_journal.specs.Journal.{IsLegal}
 use Rattle.journal_laws.proofs.Changes.{legal_by}
-use Rattle.replica_api.specs.Replica.{Saved}
+use Rattle.replica_api.specs.Replica.{Meaning}
 use Rattle.base_engine.specs.Settling.{MaySend}
 use Rattle.base_engine.specs.Node.{NodeView}
 use Rattle.node_lines.specs.declared.desk.Desk.{Desk}
@@ -46,9 +45,9 @@ module _ (scope law : Law) (narrow : IsNarrower scope law) where
   may_send : (who : ℕ) (es : List Entry) → All (λ e. MaySend scope.may who e) es → All (λ e. MaySend law.may who e) es
   may_send who es h = All-weaker (λ e. MaySend scope.may who e) (λ e. MaySend law.may who e) (λ e k. record { allowed = narrow.may who e k.allowed; spelled = k.spelled }) es h
 
-  module _ (state : List Entry → SpaceMap → Type 0) (spells : List ℕ → Saved → Type 0) (journal : List Event) (s : SeatView) where
+  module _ (meaning : Meaning) (journal : List Event) (s : SeatView) where
     -- so is a seat, as far as its journal is legal
-    pub seat_legal : IsLegal law journal → SeatOk scope state spells journal s → SeatOk law state spells journal s
+    pub seat_legal : IsLegal law journal → SeatOk scope meaning journal s → SeatOk law meaning journal s
     seat_legal legal h = record {
       shelf_is = h.shelf_is ∙ ap length narrow.shelf;
       goes_by = h.goes_by;
@@ -63,7 +62,7 @@ module _ (scope law : Law) (narrow : IsNarrower scope law) where
       };
     }
 
-    pub seat_wider : SeatOk scope state spells journal s → SeatOk law state spells journal s
+    pub seat_wider : SeatOk scope meaning journal s → SeatOk law meaning journal s
     seat_wider h = seat_legal (legal_wide journal h.node.legal) h
 
   pub goes_wider : (old new : NodeView) (others : List Cause) → Goes scope old new others → Goes law old new others

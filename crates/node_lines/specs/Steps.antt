@@ -1,13 +1,12 @@
 -- What one step of a worker's turn leaves: each has a scope of its own.
 use Rattle.std.specs.Prelude.{◌≡◌, ◌⊎◌, ℕ, ◌≤◌, List, Option, None, Some}
-use Rattle.delos_types.specs.Spaces.{SpaceMap}
 use Rattle.delos_types.specs.declared.entry.Entry.{Entry}
 use Rattle.delos_types.specs.declared.item.Item.{Item}
 use Rattle.delos_types.specs.declared.cause.Cause.{Cause}
 use Rattle.legal_journal.specs.Law.{Law}
 use Rattle.legal_journal.specs.declared.events.Event.{Event}
 use Rattle.base_engine.specs.Node.{NodeView}
-use Rattle.replica_api.specs.Replica.{Saved}
+use Rattle.replica_api.specs.Replica.{Meaning}
 use Rattle.turn_scopes.specs.Beside.{Since, SealsByRight}
 use Rattle.turn_scopes.specs.Seats.{SeatView, SeatOk}
 use Rattle.node_lines.specs.declared.lines.Looked.{Looked}
@@ -17,8 +16,8 @@ use Rattle.node_lines.specs.Leaving.{PlaysKnown}
 
 -- Whatever it came to, the seat can take the access again; each event since is the node's or of one of those beside; and it began a Seal only where
 -- it has the right.
-pub record IsLeft (law : Law) (state : List Entry → SpaceMap → Type 0) (spells : List ℕ → Saved → Type 0) (beside : ℕ → ℕ → Type 0) (right : Type 0) (old : List Event) (a : SeatView) (new : List Event) (b : SeatView) : Type 0 where
-  pub stands : SeatOk law state spells new b
+pub record IsLeft (law : Law) (meaning : Meaning) (beside : ℕ → ℕ → Type 0) (right : Type 0) (old : List Event) (a : SeatView) (new : List Event) (b : SeatView) : Type 0 where
+  pub stands : SeatOk law meaning new b
   pub who : b.who ≡ a.who
   pub since : Since a.who (beside a.who) old new
   pub seals : SealsByRight right a.who old new

@@ -1,13 +1,13 @@
 -- What holds of a node with its sessions between two of its turns.
 use Rattle.std.specs.Prelude.{All, ◌≡◌, ℕ, ◌+◌, ◌<◌, ◌≤◌, ◌⊎◌, ◌==◌, false, List, [], ◌∷◌, ◌++◌, length, map, get_or, Contains, Some, slice_get, slice_set}
 use Rattle.std.specs.List.{AllByRecursion}
-use Rattle.delos_types.specs.Spaces.{SpaceMap}
 use Rattle.delos_types.specs.declared.entry.Entry.{Entry}
 use Rattle.delos_types.specs.declared.cause.Cause.{Cause}
 use Rattle.delos_types.specs.declared.item.Item.{Item}
 use Rattle.legal_journal.specs.Law.{Law}
 use Rattle.legal_journal.specs.declared.events.Event.{Event}
-use Rattle.replica_api.specs.Replica.{Saved}
+use Rattle.replica_api.specs.Replica.{Meaning}
+use Rattle.virtual_log.specs.Holding.{Holds}
 use Rattle.turn_scopes.specs.Floors.{FloorIs}
 use Rattle.base_engine.specs.Node.{NodeView}
 use Rattle.node_lines.specs.declared.desk.Desk.{Desk}
@@ -87,10 +87,10 @@ Grows old new = (more : List Event) × (new ≡ old ++ more)
 -- A node and its sessions, by whom its events are. It appended no rank of a session above those that its desk of the session sent, and
 -- of a session without a desk none. What waits at it is of sessions, and nobody else may append the commands of those that asked
 -- something here.
-pub record WorkerOk (law : Law) (state : List Entry → SpaceMap → Type 0) (spells : List ℕ → Saved → Type 0) (who : ℕ) (journal : List Event) (seat : SeatView) (desks : List Desk) : Type 0 where
+pub record WorkerOk (law : Law) (meaning : Meaning) (who : ℕ) (journal : List Event) (seat : SeatView) (desks : List Desk) : Type 0 where
   pub who_is : seat.who ≡ who
   pub origin : seat.node.replica.origin ≡ who
-  pub ok : SeatOk (record law { may = Sends who law.may (sent_by desks) journal }) state spells journal seat
+  pub ok : SeatOk (record law { may = Sends who law.may (sent_by desks) journal }) meaning journal seat
   pub packs : CanPack seat.node.replica.kept
   pub waits : All IsOfSession seat.node.replica.kept
   pub size : length desks ≡ 64
@@ -117,6 +117,19 @@ pub record IsSaid (journal : List Event) (c : Content) : Type 0 where
 abbrev pub IsReported : List Event → ℕ → Type 0
 IsReported journal n = (n ≡ 0) ⊎ ((node : ℕ) × IsSaid journal (Alive node n))
 
+-- an entry that the log holds says it
+pub record IsHeld (journal : List Event) (c : Content) : Type 0 where
+  pub at : ℕ
+  pub entry : Entry
+  pub held : Holds journal at entry
+  pub placed : Placed
+  pub among : Contains (unpack 0 entry) placed
+  pub is : placed.content ≡ c
+
+-- the log holds a report of this position, or it is none
+abbrev pub IsHeldReport : List Event → ℕ → Type 0
+IsHeldReport journal n = (n ≡ 0) ⊎ ((node : ℕ) × IsHeld journal (Alive node n))
+
 -- What the node's report added of its own: entries of sessions, and one that reports a clean position, of which the node has the state.
 -- What says this report among the entries below that position, the node had appended before.
 pub record ReportAdds (who cursor : ℕ) (old new : List Event) (answer : Looked) : Type 0 where
@@ -131,11 +144,16 @@ pub record ReportAdds (who cursor : ℕ) (old new : List Event) (answer : Looked
 abbrev pub LeaveAdds : ℕ → List Event → List Event → Type 0
 LeaveAdds who old new = OwnAdds who (λ e. IsOfSessions e ⊎ SaysAlone (Leave who) e) old new
 
--- What its trim added: entries of sessions, and one that asks for a trim to a position that a node reported.
+-- What its trim added: entries of sessions, and one that asks for a trim to a position that a node reported. Before that one was
+-- appended, the log held such a report.
 pub record TrimAdds (who : ℕ) (old new : List Event) : Type 0 where
   pub position : ℕ
   pub reported : IsReported new position
   pub adds : OwnAdds who (λ e. IsOfSessions e ⊎ SaysAlone (Trim position) e) old new
+  pub before : List Event
+  pub later : Grows before new
+  pub none : OwnAdds who IsOfSessions old before
+  pub held : IsHeldReport before position
 
 -- As long as a node is a member and reports no more, nobody trims the log behind it.
 

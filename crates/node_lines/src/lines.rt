@@ -112,7 +112,7 @@ pub fn log_command<T: Turns, C: Chooser, R: Replica>(
 ) -> Result<(), AllocError>
     requires floor { (log : List Entry) (n : ℕ) → T.Law.law.floor log n → n ≤ length log }
     requires legal { IsLegal T.Law.law node.old.seen }
-    requires follows { Follows Holds R.state R.spells node.old.seen node.old.replica }
+    requires follows { Follows Holds R.meaning node.old.seen node.old.replica }
     requires kept { CanPack node.old.replica.kept }
     requires desk { DeskOk node.old desk.old.session desk.old }
     requires stopped { desk.old.stopped ≡ None }
@@ -183,7 +183,7 @@ pub fn end_phase<T: Turns, C: Chooser, R: Replica>(
     requires legal { IsLegal T.Law.law node.old.seen }
     requires kept { CanPack node.old.replica.kept }
     ensures ends { IfOk result (EndsPhase T.Law.law node.old node.new) }
-    ensures follows { OnOk result (Follows Holds R.state R.spells node.new.seen node.new.replica) }
+    ensures follows { OnOk result (Follows Holds R.meaning node.new.seen node.new.replica) }
 {
     pack(node)?;
     settle(node)?;
@@ -202,7 +202,7 @@ pub fn close<T: Turns, C: Chooser, R: Replica>(
 ) -> Result<(), AllocError>
     requires floor { (log : List Entry) (n : ℕ) → T.Law.law.floor log n → n ≤ length log }
     requires legal { IsLegal T.Law.law node.now.seen }
-    requires follows { Follows Holds R.state R.spells node.now.seen node.now.replica }
+    requires follows { Follows Holds R.meaning node.now.seen node.now.replica }
     requires desk { DeskOk node.now desk.old.session desk.old }
     requires bound { IsBound T.Law.law.may desk.old.session desk.old.sent }
     requires found { failed ≡ None → IsFree node.now desk.old → InFront node.now.seen node.now.replica.cursor (HasActedTo desk.old.session desk.old.sent) }

@@ -77,7 +77,7 @@ pub fn sync<T: Turns, C: Chooser, R: Replica>(
 
     // The log ends there, where no event of another came meanwhile and nothing was trimmed that wasn't played.
     ensures exact { IfOk result (λ s. (tail : ℕ) → s ≡ Synced.At tail → EndsBy node.old.who node.old.replica.cursor node.old.seen tail node.new.seen) }
-    ensures follows { Follows Holds R.state R.spells node.new.seen node.new.replica }
+    ensures follows { Follows Holds R.meaning node.new.seen node.new.replica }
     ensures kept { node.new.replica.kept ≡ node.old.replica.kept }
     ensures outbox { node.new.outbox ≡ node.old.outbox }
 {
@@ -101,7 +101,7 @@ pub fn hand_in<T: Turns, C: Chooser, R: Replica>(
     ensures hands { OnOk result ((s sent : ℕ) → rank_under s (content_of item) ≡ Some (sent + 1) → HandsIn T.Law.law node.old node.new s sent) }
     ensures replica { OnOk result (node.new.replica ≡ record node.old.replica { kept = node.new.replica.kept }) }
     ensures kept { OnOk result ((node.new.replica.kept ≡ node.old.replica.kept ++ item ∷ []) ⊎ (node.new.replica.kept ≡ [])) }
-    ensures follows { Follows Holds R.state R.spells node.new.seen node.new.replica }
+    ensures follows { Follows Holds R.meaning node.new.seen node.new.replica }
 {
     match node.propose(item) {
         Ok(()) => return Ok(()),

@@ -30,7 +30,7 @@ fn close_it<T: Turns, C: Chooser, R: Replica>(
 ) -> Result<(), AllocError>
     requires floor { (log : List Entry) (n : ℕ) → T.Law.law.floor log n → n ≤ length log }
     requires legal { IsLegal T.Law.law node.now.seen }
-    requires follows { Follows Holds R.state R.spells node.now.seen node.now.replica }
+    requires follows { Follows Holds R.meaning node.now.seen node.now.replica }
     requires desk { DeskOk node.now desk.old.session desk.old }
     requires bound { 0 < desk.old.asked → IsBound T.Law.law.may desk.old.session desk.old.sent }
     requires found { failed ≡ None → IsFree node.now desk.old → InFront node.now.seen node.now.replica.cursor (HasActedTo desk.old.session desk.old.sent) }
@@ -54,7 +54,7 @@ fn close_all<T: Turns, C: Chooser, R: Replica>(
 ) -> Result<(), AllocError>
     requires floor { (log : List Entry) (n : ℕ) → T.Law.law.floor log n → n ≤ length log }
     requires legal { IsLegal T.Law.law node.now.seen }
-    requires follows { Follows Holds R.state R.spells node.now.seen node.now.replica }
+    requires follows { Follows Holds R.meaning node.now.seen node.now.replica }
     requires desks { DesksOk node.now desks.old }
     requires bound { AreBound T.Law.law.may desks.old }
     requires found { failed ≡ None → (s : ℕ) (d : Desk) → slice_get desks.old s ≡ Some d → IsFree node.now d → InFront node.now.seen node.now.replica.cursor (HasActedTo s d.sent) }
@@ -74,7 +74,7 @@ fn collect_it<T: Turns, C: Chooser, R: Replica>(
 ) -> Result<(), AllocError>
     requires floor { (log : List Entry) (n : ℕ) → T.Law.law.floor log n → n ≤ length log }
     requires legal { IsLegal T.Law.law node.now.seen }
-    requires follows { Follows Holds R.state R.spells node.now.seen node.now.replica }
+    requires follows { Follows Holds R.meaning node.now.seen node.now.replica }
     requires desk { DeskOk node.now desk.old.session desk.old }
     requires bound { 0 < desk.old.asked → IsBound T.Law.law.may desk.old.session desk.old.sent }
     ensures desk { OnOk result (DeskOk node.now desk.old.session desk.new) }
@@ -96,7 +96,7 @@ fn collect_all<T: Turns, C: Chooser, R: Replica>(
 ) -> Result<(), AllocError>
     requires floor { (log : List Entry) (n : ℕ) → T.Law.law.floor log n → n ≤ length log }
     requires legal { IsLegal T.Law.law node.now.seen }
-    requires follows { Follows Holds R.state R.spells node.now.seen node.now.replica }
+    requires follows { Follows Holds R.meaning node.now.seen node.now.replica }
     requires desks { DesksOk node.now desks.old }
     requires bound { AreBound T.Law.law.may desks.old }
     ensures desks { OnOk result (DesksOk node.now desks.new) }

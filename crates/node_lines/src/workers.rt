@@ -21,16 +21,16 @@ use replica_api::replica::Replica;
 /// those that its desk of the session sent.
 pub fn what_a_worker_has_stays<P: Rules, S: Replica>()
     ensures { (who : ℕ) (early more : List Event) (seat : SeatView) (desks : List Desk)
-        → WorkerOk P.law S.state S.spells who early seat desks → IsLegal (record P.law { may = OwnWithin who P.law.may (sent_by desks) }) (early ++ more)
-        → WorkerOk P.law S.state S.spells who (early ++ more) seat desks }
+        → WorkerOk P.law S.meaning who early seat desks → IsLegal (record P.law { may = OwnWithin who P.law.may (sent_by desks) }) (early ++ more)
+        → WorkerOk P.law S.meaning who (early ++ more) seat desks }
 {}
 
 /// A worker's journal is legal, also where what its desks sent binds what the worker appends.
 pub fn a_worker_is_legal<P: Rules, S: Replica>()
     ensures within { (who : ℕ) (journal : List Event) (seat : SeatView) (desks : List Desk)
-        → WorkerOk P.law S.state S.spells who journal seat desks → IsLegal (record P.law { may = OwnWithin who P.law.may (sent_by desks) }) journal }
+        → WorkerOk P.law S.meaning who journal seat desks → IsLegal (record P.law { may = OwnWithin who P.law.may (sent_by desks) }) journal }
     ensures legal { (who : ℕ) (journal : List Event) (seat : SeatView) (desks : List Desk)
-        → WorkerOk P.law S.state S.spells who journal seat desks → IsLegal P.law journal }
+        → WorkerOk P.law S.meaning who journal seat desks → IsLegal P.law journal }
 {}
 
 /// What is held below an early tail was sent by then. So a rank above those that were sent by then is held at no position

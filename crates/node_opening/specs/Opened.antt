@@ -2,9 +2,13 @@
 use Rattle.std.specs.Prelude.{◌≡◌, ℕ, ◌+◌, ◌<◌, ◌&&◌, not, nat_lt, true, false, List, slice_get, Some}
 use Rattle.disk_model.specs.Disk.{DiskView}
 use Rattle.log_laws.specs.State.{IsStateOf}
-use Rattle.replica_api.specs.Replica.{ReplicaView}
+use Rattle.replica_api.specs.Replica.{Meaning, ReplicaView}
 use Rattle.local_replica.specs.Shown.{Spells}
 use Rattle.replica_api.specs.Fresh.{IsFreshReplica}
+
+-- what the log and the disk of a local replica mean
+abbrev pub local_meaning : Meaning
+local_meaning = record { state = IsStateOf; spells = Spells }
 
 -- a replica is down just where a fault of its disk was counted
 pub record IsCounted (v : ReplicaView) : Type 0 where
@@ -13,7 +17,7 @@ pub record IsCounted (v : ReplicaView) : Type 0 where
 
 -- the replicas of these nodes have applied nothing, and are numbered from 1
 abbrev pub AreFreshReplicas : {A : Type 0} → (A → ReplicaView) → List A → Type 0
-AreFreshReplicas {A} shows nodes = (j : ℕ) (n : A) → slice_get nodes j ≡ Some n → IsFreshReplica IsStateOf Spells (j + 1) (shows n)
+AreFreshReplicas {A} shows nodes = (j : ℕ) (n : A) → slice_get nodes j ≡ Some n → IsFreshReplica local_meaning (j + 1) (shows n)
 
 -- a replica that is up has its disk armed just where this disk is; one that is down shows no armed disk
 abbrev pub IsArmedAs : DiskView → ReplicaView → Type 0

@@ -2,11 +2,10 @@
 ghost use Rattle.std.specs.Prelude.{◌≡◌, ◌≤◌, ◌+◌, [], ◌∷◌, length, map, IfOk, IfErr, OnOk, OnErr};
 ghost use Rattle.std.specs.List.{AllByRecursion};
 ghost use Rattle.std.specs.Vec.{vec_capacity};
-ghost use Rattle.log_laws.specs.State.{IsStateOf};
-ghost use Rattle.local_replica.specs.Shown.{shown, Spells};
+ghost use Rattle.local_replica.specs.Shown.{shown};
 ghost use Rattle.replica_api.specs.Fresh.{IsFreshReplica};
 ghost use Rattle.fitting_run.specs.Fresh.{IsFreshNode};
-ghost use Rattle.node_opening.specs.Opened.{IsCounted, IsArmedAs, AreFreshReplicas, AreArmedAs};
+ghost use Rattle.node_opening.specs.Opened.{IsCounted, IsArmedAs, AreFreshReplicas, AreArmedAs, local_meaning};
 
 use crate::closing::{close_before, put_first};
 use crate::parts::NodeParts;
@@ -27,7 +26,7 @@ fn open_node<E: Layers, D: Disk, C: Chooser>(
     one: NodeParts<E, D, C>,
 ) -> Result<OpenNode<LocalReplica<E, D>, C>, NodeParts<E, D, C>>
     requires { IsFreshNode (E.kinds one.engines) (E.waiting one.engines) (D.view one.disk) }
-    ensures fresh { IfOk result (λ n. IsFreshReplica IsStateOf Spells number (shown n.replica.store n.replica.origin (E.waiting n.replica.engines) n.replica.told)) }
+    ensures fresh { IfOk result (λ n. IsFreshReplica local_meaning number (shown n.replica.store n.replica.origin (E.waiting n.replica.engines) n.replica.told)) }
     ensures counted { IfOk result (λ n. IsCounted (shown n.replica.store n.replica.origin (E.waiting n.replica.engines) n.replica.told)) }
     ensures armed { IfOk result (λ n. IsArmedAs (D.view one.disk) (shown n.replica.store n.replica.origin (E.waiting n.replica.engines) n.replica.told)) }
     ensures engines { IfOk result (λ n. n.replica.engines ≡ one.engines) }

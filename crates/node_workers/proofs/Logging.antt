@@ -4,12 +4,11 @@ use Rattle.std.specs.Prelude.{All, slice_get, slice_set, ◌==◌, Contains}
 use Rattle.std.proofs.lemmas.Bool.Decides.{nat_tests}
 use Rattle.std.proofs.lemmas.List.{length-set}
 use Rattle.std.proofs.lemmas.List.Elements.{Contains-push}
-use Rattle.delos_types.specs.Spaces.{SpaceMap}
 use Rattle.delos_types.specs.declared.entry.Entry.{Entry}
 use Rattle.delos_types.specs.declared.cause.Cause.{Cause}
 use Rattle.legal_journal.specs.Law.{Law}
 use Rattle.legal_journal.specs.declared.events.Event.{Event}
-use Rattle.replica_api.specs.Replica.{Saved}
+use Rattle.replica_api.specs.Replica.{Meaning}
 use Rattle.fabric_core.proofs.Marks.{set_other, set_same}
 use Rattle.base_engine.specs.Settling.{cause_in}
 use Rattle.base_engine.specs.Node.{NodeView}
@@ -91,13 +90,13 @@ module _ (law : Law) (low : (log : List Entry) (n : ℕ) → law.floor log n →
       }
 
   -- the worker then
-  pub worker_logs : (state : List Entry → SpaceMap → Type 0) (spells : List ℕ → Saved → Type 0) (who : ℕ) (counts : List ℕ) (old new : List Event) (a b : SeatView) (desks : List Desk) (s : ℕ) (was is : Desk)
-      → WorkerOk law state spells who old a desks → IsHome law.may s who → SeatOk (record law { may = Sends b.who law.may (sent_by (slice_set desks s is)) new }) state spells new b → All IsOfSession b.node.replica.kept → slice_get desks s ≡ Some was → DeskOk (node_of b new) s is
-      → LogsIt law counts (node_of a old) (node_of b new) s was is → WorkerOk law state spells who new b (slice_set desks s is)
-  worker_logs state spells who counts old new a b desks s was is h home ok waits at fine l = record {
+  pub worker_logs : (meaning : Meaning) (who : ℕ) (counts : List ℕ) (old new : List Event) (a b : SeatView) (desks : List Desk) (s : ℕ) (was is : Desk)
+      → WorkerOk law meaning who old a desks → IsHome law.may s who → SeatOk (record law { may = Sends b.who law.may (sent_by (slice_set desks s is)) new }) meaning new b → All IsOfSession b.node.replica.kept → slice_get desks s ≡ Some was → DeskOk (node_of b new) s is
+      → LogsIt law counts (node_of a old) (node_of b new) s was is → WorkerOk law meaning who new b (slice_set desks s is)
+  worker_logs meaning who counts old new a b desks s was is h home ok waits at fine l = record {
     who_is = l.goes.keeps.who ∙ h.who_is;
     origin = l.goes.keeps.origin ∙ h.origin;
-    ok = subst (λ w. SeatOk (record law { may = Sends w law.may (sent_by (slice_set desks s is)) new }) state spells new b) (l.goes.keeps.who ∙ h.who_is) ok;
+    ok = subst (λ w. SeatOk (record law { may = Sends w law.may (sent_by (slice_set desks s is)) new }) meaning new b) (l.goes.keeps.who ∙ h.who_is) ok;
     packs = l.goes.packs h.packs;
     waits = waits;
     size = length-set desks s is ∙ h.size;

@@ -30,22 +30,31 @@ use Rattle.node_lines.specs.declared.measure.Measured.TheVariants as measured
 use Rattle.node_lines.specs.Measuring.{Measures}
 use Rattle.node_lines.specs.Trimming.{Cuts, TrimsLog}
 use Rattle.node_lines.specs.Steps.{TellsAndPlays}
-use Rattle.node_lines.specs.Workers.{IsCommand, IsOfSessions, IsReported, OwnAdds, HasNotLeft, MayRun, ReportsUpTo, TrimAdds, SaysAlone, appended_by}
+use Rattle.node_lines.specs.Workers.{Grows, IsCommand, IsHeldReport, IsOfSessions, IsReported, OwnAdds, HasNotLeft, MayRun, ReportsUpTo, TrimAdds, SaysAlone, appended_by}
 use Rattle.node_lines.proofs.Assembling.{trims_of, trims_done, trims_uncut, trims_unplayed, trims_untold}
 use Rattle.node_lines.proofs.Cleaning.{front_appended, same_front, says_command, says_that}
 use Rattle.node_lines.proofs.Floors.{least-in_state, point-in_state}
 use Rattle.node_lines.proofs.Own.{own_adds_wider, own_appended, reported_by, stays_on}
 use Rattle.node_lines.proofs.Leaving.{known_played}
-use Rattle.node_lines.proofs.Saying.{is_member, least_said, position_low}
+use Rattle.node_lines.proofs.Saying.{is_member, least_held, least_said, position_low}
 use Rattle.node_workers.proofs.Telling.{tells_moves}
 
 -- What was appended meanwhile
 
-pub trim_adds_none : (who : ℕ) (old new : List Event) → OwnAdds who IsOfSessions old new → TrimAdds who old new
-trim_adds_none who old new h = record { position = 0; reported = inl refl; adds = own_adds_wider who IsOfSessions (λ e. IsOfSessions e ⊎ SaysAlone (Trim 0) e) old new (λ e k. inl k) h }
+pub trim_adds_none : (who : ℕ) (old new : List Event) → Grows old new → OwnAdds who IsOfSessions old new → TrimAdds who old new
+trim_adds_none who old new g h = record {
+  position = 0;
+  reported = inl refl;
+  adds = own_adds_wider who IsOfSessions (λ e. IsOfSessions e ⊎ SaysAlone (Trim 0) e) old new (λ e k. inl k) h;
+  before = old;
+  later = g;
+  none = λ e k. inl k;
+  held = inl refl;
+}
 
-pub trim_adds_told : (who : ℕ) (old new : List Event) (position : ℕ) → IsReported new position → OwnAdds who (λ e. IsOfSessions e ⊎ SaysAlone (Trim position) e) old new → TrimAdds who old new
-trim_adds_told who old new position reported adds = record { position = position; reported = reported; adds = adds }
+pub trim_adds_told : (who : ℕ) (old mid new : List Event) (position : ℕ) → IsReported new position → OwnAdds who (λ e. IsOfSessions e ⊎ SaysAlone (Trim position) e) old new
+    → Grows mid new → OwnAdds who IsOfSessions old mid → IsHeldReport mid position → TrimAdds who old new
+trim_adds_told who old mid new position reported adds g none held = record { position = position; reported = reported; adds = adds; before = mid; later = g; none = none; held = held }
 
 -- what was reported was so at each later moment
 pub reported_on : (old new more : List Event) (n : ℕ) → new ≡ old ++ more → IsReported old n → IsReported new n
@@ -74,6 +83,12 @@ module _ (law : Law) (low : (log : List Entry) (n : ℕ) → law.floor log n →
   asks_reported old mid n m =
       let so = m.measured n refl in
       subst (IsReported mid.seen) (sym so.is) (least_said mid.seen so.at.log (front_appended law mid.seen so.at.log m.moves.goes.keeps.later.legal so.at.front) old.nodes)
+
+  -- .. and the log holds that report
+  pub asks_held : (old mid : NodeView) (n : ℕ) → Measures law (λ log. least_position old.nodes (unpack_all 0 log)) old mid (measured.At n) → IsHeldReport mid.seen n
+  asks_held old mid n m =
+      let so = m.measured n refl in
+      subst (IsHeldReport mid.seen) (sym so.is) (least_held mid.seen so.at.log so.at.front old.nodes)
 
   -- the log may be trimmed as far as the node's state says
   pub may_trim : (node : NodeView) (nodes : ℕ) → node.nodes ≡ nodes → IsLegal law node.seen → IsStateAt Holds IsStateOf node.seen (saved_in node.replica) → FloorIs law.floor nodes → (log : List Entry) → IsFront Holds node.seen log → length log ≡ node.replica.cursor

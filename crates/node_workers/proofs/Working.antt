@@ -5,12 +5,10 @@ use Rattle.std.proofs.lemmas.Bool.{cases_lt}
 use Rattle.std.proofs.lemmas.List.Elements.{All-nil}
 use Rattle.std.proofs.lemmas.Option.{slice_get_read}
 use Rattle.base_engine.specs.Node.{NodeView}
-use Rattle.delos_types.specs.Spaces.{SpaceMap}
-use Rattle.delos_types.specs.declared.entry.Entry.{Entry}
 use Rattle.delos_types.specs.declared.cause.Cause.{Cause}
 use Rattle.legal_journal.specs.Law.{Law}
 use Rattle.legal_journal.specs.declared.events.Event.{Event}
-use Rattle.replica_api.specs.Replica.{Saved}
+use Rattle.replica_api.specs.Replica.{Meaning}
 use Rattle.node_lines.specs.declared.desk.Desk.{Desk}
 use Rattle.turn_scopes.specs.Seats.{SeatView, SeatOk, node_of}
 use Rattle.node_lines.specs.Moving.{Moves, CanPack}
@@ -30,18 +28,18 @@ pub none-waits : (s : SeatView) → s.node.replica.kept ≡ [] → All IsOfSessi
 none-waits s kept = subst (All IsOfSession) (sym kept) (All-nil IsOfSession)
 
 module _ (law : Law) (run : MayRun law) where
-  module _ (state : List Entry → SpaceMap → Type 0) (spells : List ℕ → Saved → Type 0) (who : ℕ) (counts : List ℕ) where
+  module _ (meaning : Meaning) (who : ℕ) (counts : List ℕ) where
     -- its seat, by what its desks sent
-    pub seat_by : (journal : List Event) (s : SeatView) (desks : List Desk) → counts ≡ sent_by desks → WorkerOk law state spells who journal s desks → SeatOk (record law { may = Sends s.who law.may counts journal }) state spells journal s
-    seat_by journal s desks sent h = subst (λ cs. SeatOk (record law { may = Sends s.who law.may cs journal }) state spells journal s) (sym sent) (subst (λ w. SeatOk (record law { may = Sends w law.may (sent_by desks) journal }) state spells journal s) (sym h.who_is) h.ok)
+    pub seat_by : (journal : List Event) (s : SeatView) (desks : List Desk) → counts ≡ sent_by desks → WorkerOk law meaning who journal s desks → SeatOk (record law { may = Sends s.who law.may counts journal }) meaning journal s
+    seat_by journal s desks sent h = subst (λ cs. SeatOk (record law { may = Sends s.who law.may cs journal }) meaning journal s) (sym sent) (subst (λ w. SeatOk (record law { may = Sends w law.may (sent_by desks) journal }) meaning journal s) (sym h.who_is) h.ok)
 
     -- a call that keeps all sessions keeps the worker
-    pub worker_moves : (old new : List Event) (s t : SeatView) (desks : List Desk) (others : List Cause) → counts ≡ sent_by desks → WorkerOk law state spells who old s desks → SeatOk (record law { may = Sends t.who law.may counts new }) state spells new t
-        → All IsOfSession t.node.replica.kept → Moves (record law { may = OwnWithin s.who law.may counts }) (node_of s old) (node_of t new) others → WorkerOk law state spells who new t desks
+    pub worker_moves : (old new : List Event) (s t : SeatView) (desks : List Desk) (others : List Cause) → counts ≡ sent_by desks → WorkerOk law meaning who old s desks → SeatOk (record law { may = Sends t.who law.may counts new }) meaning new t
+        → All IsOfSession t.node.replica.kept → Moves (record law { may = OwnWithin s.who law.may counts }) (node_of s old) (node_of t new) others → WorkerOk law meaning who new t desks
     worker_moves old new s t desks others sent h ok waits m = record {
       who_is = m.goes.keeps.who ∙ h.who_is;
       origin = m.goes.keeps.origin ∙ h.origin;
-      ok = subst (λ cs. SeatOk (record law { may = Sends who law.may cs new }) state spells new t) sent (subst (λ w. SeatOk (record law { may = Sends w law.may counts new }) state spells new t) (m.goes.keeps.who ∙ h.who_is) ok);
+      ok = subst (λ cs. SeatOk (record law { may = Sends who law.may cs new }) meaning new t) sent (subst (λ w. SeatOk (record law { may = Sends w law.may counts new }) meaning new t) (m.goes.keeps.who ∙ h.who_is) ok);
       packs = m.goes.packs h.packs;
       waits = waits;
       size = h.size;
@@ -50,12 +48,12 @@ module _ (law : Law) (run : MayRun law) where
     }
 
     -- so does one that takes answers too
-    pub worker_answers : (old new : List Event) (s t : SeatView) (was is : List Desk) (others : List Cause) → counts ≡ sent_by was → WorkerOk law state spells who old s was → SeatOk (record law { may = Sends t.who law.may counts new }) state spells new t
-        → All IsOfSession t.node.replica.kept → Moves (record law { may = OwnWithin s.who law.may counts }) (node_of s old) (node_of t new) others → DesksOk (node_of t new) is → length is ≡ length was → IsAnswered was is → WorkerOk law state spells who new t is
+    pub worker_answers : (old new : List Event) (s t : SeatView) (was is : List Desk) (others : List Cause) → counts ≡ sent_by was → WorkerOk law meaning who old s was → SeatOk (record law { may = Sends t.who law.may counts new }) meaning new t
+        → All IsOfSession t.node.replica.kept → Moves (record law { may = OwnWithin s.who law.may counts }) (node_of s old) (node_of t new) others → DesksOk (node_of t new) is → length is ≡ length was → IsAnswered was is → WorkerOk law meaning who new t is
     worker_answers old new s t was is others sent h ok waits m each size takes = record {
       who_is = m.goes.keeps.who ∙ h.who_is;
       origin = m.goes.keeps.origin ∙ h.origin;
-      ok = subst (λ cs. SeatOk (record law { may = Sends who law.may cs new }) state spells new t) (sent ∙ sym (answered_sent was is size takes)) (subst (λ w. SeatOk (record law { may = Sends w law.may counts new }) state spells new t) (m.goes.keeps.who ∙ h.who_is) ok);
+      ok = subst (λ cs. SeatOk (record law { may = Sends who law.may cs new }) meaning new t) (sent ∙ sym (answered_sent was is size takes)) (subst (λ w. SeatOk (record law { may = Sends w law.may counts new }) meaning new t) (m.goes.keeps.who ∙ h.who_is) ok);
       packs = m.goes.packs h.packs;
       waits = waits;
       size = size ∙ h.size;
@@ -66,15 +64,15 @@ module _ (law : Law) (run : MayRun law) where
     }
 
     -- so does the end of a phase
-    pub worker_ends : (old new : List Event) (s t : SeatView) (was is : List Desk) (failed : Option Cause) → counts ≡ sent_by was → WorkerOk law state spells who old s was → SeatOk (record law { may = Sends t.who law.may counts new }) state spells new t
-        → EndsTurn (record law { may = OwnWithin s.who law.may counts }) (node_of s old) (node_of t new) was is failed → WorkerOk law state spells who new t is
+    pub worker_ends : (old new : List Event) (s t : SeatView) (was is : List Desk) (failed : Option Cause) → counts ≡ sent_by was → WorkerOk law meaning who old s was → SeatOk (record law { may = Sends t.who law.may counts new }) meaning new t
+        → EndsTurn (record law { may = OwnWithin s.who law.may counts }) (node_of s old) (node_of t new) was is failed → WorkerOk law meaning who new t is
     worker_ends old new s t was is failed sent h ok e =
         let same = e.forgets in
         let who_is = ap (λ (n : NodeView). n.who) same ∙ e.ends.moves.goes.keeps.who ∙ h.who_is in
         record {
           who_is = who_is;
           origin = ap (λ (n : NodeView). n.replica.origin) same ∙ e.ends.moves.goes.keeps.origin ∙ h.origin;
-          ok = subst (λ cs. SeatOk (record law { may = Sends who law.may cs new }) state spells new t) (sent ∙ sym (ends_sent e.mid failed was is e.closes)) (subst (λ w. SeatOk (record law { may = Sends w law.may counts new }) state spells new t) who_is ok);
+          ok = subst (λ cs. SeatOk (record law { may = Sends who law.may cs new }) meaning new t) (sent ∙ sym (ends_sent e.mid failed was is e.closes)) (subst (λ w. SeatOk (record law { may = Sends w law.may counts new }) meaning new t) who_is ok);
           packs = subst (λ (n : NodeView). CanPack n.replica.kept) (sym same) (e.ends.moves.goes.packs h.packs);
           waits = none-waits t (ap (λ (n : NodeView). n.replica.kept) same ∙ e.ends.kept);
           size = e.closes.size ∙ h.size;

@@ -70,11 +70,11 @@ pub fn extend_line<A: Access, S: Replica, C: Chooser>(
     requires run { MayRun A.Law.law }
     requires who { worker.seat.who ≡ A.who access }
     requires kept { IsKept A.beside A.Law.law.floor worker.seat (A.seen access) }
-    requires worker { WorkerOk A.Law.law S.state S.spells worker.seat.who (A.seen access) worker.seat worker.desks.items }
+    requires worker { WorkerOk A.Law.law S.meaning worker.seat.who (A.seen access) worker.seat worker.desks.items }
     ensures desks { result.part.desks ≡ worker.desks }
     ensures who { A.who result.access ≡ A.who access }
-    ensures left { IsLeft A.Law.law S.state S.spells A.beside (Unit {0}) (A.seen access) worker.seat (A.seen result.access) result.part.seat }
-    ensures worker { IfOk result.answer (λ l. WorkerOk A.Law.law S.state S.spells worker.seat.who (A.seen result.access) result.part.seat result.part.desks.items) }
+    ensures left { IsLeft A.Law.law S.meaning A.beside (Unit {0}) (A.seen access) worker.seat (A.seen result.access) result.part.seat }
+    ensures worker { IfOk result.answer (λ l. WorkerOk A.Law.law S.meaning worker.seat.who (A.seen result.access) result.part.seat result.part.desks.items) }
     ensures kept { IfOk result.answer (λ l. IsKept A.beside A.Law.law.floor result.part.seat (A.seen result.access)) }
     ensures adds { IfOk result.answer (λ l. OwnAdds worker.seat.who IsOfSessions (A.seen access) (A.seen result.access)) }
     ensures extends { IfOk result.answer (Extends (record A.Law.law { may = OwnWithin worker.seat.who A.Law.law.may (sent_by worker.desks.items) }) (node_of worker.seat (A.seen access)) (node_of result.part.seat (A.seen result.access))) }
@@ -148,13 +148,13 @@ pub fn report_line<A: Access, S: Replica, C: Chooser>(
     requires run { MayRun A.Law.law }
     requires who { worker.seat.who ≡ A.who access }
     requires kept { IsKept A.beside A.Law.law.floor worker.seat (A.seen access) }
-    requires worker { WorkerOk A.Law.law S.state S.spells worker.seat.who (A.seen access) worker.seat worker.desks.items }
+    requires worker { WorkerOk A.Law.law S.meaning worker.seat.who (A.seen access) worker.seat worker.desks.items }
     requires number { worker.seat.who ≡ number }
     requires own { (position : ℕ) → position < 2 ^ 64 → A.Law.law.may worker.seat.who (packed worker.seat.who (alive_item worker.seat.who position ∷ [])) }
     ensures desks { result.part.desks ≡ worker.desks }
     ensures who { A.who result.access ≡ A.who access }
-    ensures left { IsLeft A.Law.law S.state S.spells A.beside ⊥ (A.seen access) worker.seat (A.seen result.access) result.part.seat }
-    ensures worker { IfOk result.answer (λ l. WorkerOk A.Law.law S.state S.spells worker.seat.who (A.seen result.access) result.part.seat result.part.desks.items) }
+    ensures left { IsLeft A.Law.law S.meaning A.beside ⊥ (A.seen access) worker.seat (A.seen result.access) result.part.seat }
+    ensures worker { IfOk result.answer (λ l. WorkerOk A.Law.law S.meaning worker.seat.who (A.seen result.access) result.part.seat result.part.desks.items) }
     ensures kept { IfOk result.answer (λ l. IsKept A.beside A.Law.law.floor result.part.seat (A.seen result.access)) }
     ensures adds { IfOk result.answer (ReportAdds worker.seat.who result.part.seat.node.replica.cursor (A.seen access) (A.seen result.access)) }
     ensures reports { IfOk result.answer (λ l. Reports (record A.Law.law { may = OwnWithin worker.seat.who A.Law.law.may (sent_by worker.desks.items) }) (node_of worker.seat (A.seen access)) (node_of result.part.seat (A.seen result.access)) l) }
@@ -232,7 +232,7 @@ pub fn trim_line<A: Access, S: Replica, C: Chooser>(
     requires run { MayRun A.Law.law }
     requires who { worker.seat.who ≡ A.who access }
     requires kept { IsKept A.beside A.Law.law.floor worker.seat (A.seen access) }
-    requires worker { WorkerOk A.Law.law S.state S.spells worker.seat.who (A.seen access) worker.seat worker.desks.items }
+    requires worker { WorkerOk A.Law.law S.meaning worker.seat.who (A.seen access) worker.seat worker.desks.items }
     requires number { worker.seat.who ≡ number }
     requires few { worker.seat.who ≤ worker.seat.node.nodes }
     requires floor { FloorIs A.Law.law.floor worker.seat.node.nodes }
@@ -241,8 +241,8 @@ pub fn trim_line<A: Access, S: Replica, C: Chooser>(
     requires own { (position : ℕ) → position < 2 ^ 64 → A.Law.law.may worker.seat.who (packed worker.seat.who (trim_item position ∷ [])) }
     ensures desks { result.part.desks ≡ worker.desks }
     ensures who { A.who result.access ≡ A.who access }
-    ensures left { IsLeft A.Law.law S.state S.spells A.beside ⊥ (A.seen access) worker.seat (A.seen result.access) result.part.seat }
-    ensures worker { IfOk result.answer (λ l. WorkerOk A.Law.law S.state S.spells worker.seat.who (A.seen result.access) result.part.seat result.part.desks.items) }
+    ensures left { IsLeft A.Law.law S.meaning A.beside ⊥ (A.seen access) worker.seat (A.seen result.access) result.part.seat }
+    ensures worker { IfOk result.answer (λ l. WorkerOk A.Law.law S.meaning worker.seat.who (A.seen result.access) result.part.seat result.part.desks.items) }
     ensures kept { IfOk result.answer (λ l. IsKept A.beside A.Law.law.floor result.part.seat (A.seen result.access)) }
     ensures adds { IfOk result.answer (λ l. TrimAdds worker.seat.who (A.seen access) (A.seen result.access)) }
     ensures trims { IfOk result.answer (λ l. TrimsLog (record A.Law.law { may = OwnWithin worker.seat.who A.Law.law.may (sent_by worker.desks.items) }) (node_of worker.seat (A.seen access)) (node_of result.part.seat (A.seen result.access)) l) }

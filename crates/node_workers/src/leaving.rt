@@ -41,7 +41,7 @@ fn leave_at<A: Access, E: Sent, S: Replica, C: Chooser>(
     requires run { MayRun A.Law.law }
     requires who { seat.who ≡ A.who access }
     requires kept { IsKept A.beside A.Law.law.floor seat (A.seen access) }
-    requires seat { SeatOk (record A.Law.law { may = Sends seat.who A.Law.law.may E.counts (A.seen access) }) S.state S.spells (A.seen access) seat }
+    requires seat { SeatOk (record A.Law.law { may = Sends seat.who A.Law.law.may E.counts (A.seen access) }) S.meaning (A.seen access) seat }
     requires packs { CanPack seat.node.replica.kept }
     requires desks { DesksOk (node_of seat (A.seen access)) desks.old.items }
     requires bound { AreBound (Sends seat.who A.Law.law.may E.counts (A.seen access)) desks.old.items }
@@ -49,8 +49,8 @@ fn leave_at<A: Access, E: Sent, S: Replica, C: Chooser>(
     requires number { seat.who ≡ number }
     requires own { A.Law.law.may seat.who (packed seat.who (leave_item seat.who ∷ [])) }
     ensures who { A.who result.access ≡ A.who access }
-    ensures left { IsLeft A.Law.law S.state S.spells A.beside ⊥ (A.seen access) seat (A.seen result.access) result.part }
-    ensures ok { OnOk result.answer (SeatOk (record A.Law.law { may = Sends result.part.who A.Law.law.may E.counts (A.seen result.access) }) S.state S.spells (A.seen result.access) result.part) }
+    ensures left { IsLeft A.Law.law S.meaning A.beside ⊥ (A.seen access) seat (A.seen result.access) result.part }
+    ensures ok { OnOk result.answer (SeatOk (record A.Law.law { may = Sends result.part.who A.Law.law.may E.counts (A.seen result.access) }) S.meaning (A.seen result.access) result.part) }
     ensures each { OnOk result.answer (DesksOk (node_of result.part (A.seen result.access)) desks.new.items) }
     ensures desks { OnOk result.answer ((length desks.new.items ≡ length desks.old.items) × IsAnswered desks.old.items desks.new.items) }
     ensures high { IsAlone (A.beside seat.who) → OnOk result.answer (TrimsUpTo result.part.node.replica.cursor (A.seen result.access)) }
@@ -97,12 +97,12 @@ pub fn leave_line<A: Access, S: Replica, C: Chooser>(
     requires run { MayRun A.Law.law }
     requires who { worker.seat.who ≡ A.who access }
     requires kept { IsKept A.beside A.Law.law.floor worker.seat (A.seen access) }
-    requires worker { WorkerOk A.Law.law S.state S.spells worker.seat.who (A.seen access) worker.seat worker.desks.items }
+    requires worker { WorkerOk A.Law.law S.meaning worker.seat.who (A.seen access) worker.seat worker.desks.items }
     requires number { worker.seat.who ≡ number }
     requires own { A.Law.law.may worker.seat.who (packed worker.seat.who (leave_item worker.seat.who ∷ [])) }
     ensures who { A.who result.access ≡ A.who access }
-    ensures left { IsLeft A.Law.law S.state S.spells A.beside ⊥ (A.seen access) worker.seat (A.seen result.access) result.part.seat }
-    ensures worker { OnOk result.answer (WorkerOk A.Law.law S.state S.spells worker.seat.who (A.seen result.access) result.part.seat result.part.desks.items) }
+    ensures left { IsLeft A.Law.law S.meaning A.beside ⊥ (A.seen access) worker.seat (A.seen result.access) result.part.seat }
+    ensures worker { OnOk result.answer (WorkerOk A.Law.law S.meaning worker.seat.who (A.seen result.access) result.part.seat result.part.desks.items) }
 
     // The desks are as they were, but for answers that were taken.
     ensures desks { OnOk result.answer (IsAnswered worker.desks.items result.part.desks.items) }

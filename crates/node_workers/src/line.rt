@@ -46,13 +46,13 @@ pub trait OwnLine {
         requires run { MayRun A.Law.law }
         requires who { seat.who ≡ A.who access }
         requires kept { IsKept A.beside A.Law.law.floor seat (A.seen access) }
-        requires seat { SeatOk (record A.Law.law { may = Sends seat.who A.Law.law.may E.counts (A.seen access) }) S.state S.spells (A.seen access) seat }
+        requires seat { SeatOk (record A.Law.law { may = Sends seat.who A.Law.law.may E.counts (A.seen access) }) S.meaning (A.seen access) seat }
         requires packs { CanPack seat.node.replica.kept }
         requires origin { seat.node.replica.origin ≡ seat.who }
         requires can { can A.Law.law self (node_of seat (A.seen access)) }
         ensures who { A.who result.access ≡ A.who access }
-        ensures left { IsLeft A.Law.law S.state S.spells A.beside seals (A.seen access) seat (A.seen result.access) result.part }
-        ensures ok { OnOk result.answer (SeatOk (record A.Law.law { may = Sends result.part.who A.Law.law.may E.counts (A.seen result.access) }) S.state S.spells (A.seen result.access) result.part) }
+        ensures left { IsLeft A.Law.law S.meaning A.beside seals (A.seen access) seat (A.seen result.access) result.part }
+        ensures ok { OnOk result.answer (SeatOk (record A.Law.law { may = Sends result.part.who A.Law.law.may E.counts (A.seen result.access) }) S.meaning (A.seen result.access) result.part) }
         ensures kept { OnOk result.answer (IsKept A.beside A.Law.law.floor result.part (A.seen result.access)) }
         ensures adds { IfOk result.answer (adds self (node_of seat (A.seen access)) (node_of result.part (A.seen result.access))) }
         ensures did { IfOk result.answer (did (record A.Law.law { may = OwnWithin seat.who A.Law.law.may E.counts }) self (node_of seat (A.seen access)) (node_of result.part (A.seen result.access))) };
@@ -68,12 +68,12 @@ fn line_by<A: Access, E: Sent, S: Replica, C: Chooser, Y: OwnLine>(
     requires run { MayRun A.Law.law }
     requires who { worker.seat.who ≡ A.who access }
     requires kept { IsKept A.beside A.Law.law.floor worker.seat (A.seen access) }
-    requires worker { WorkerOk A.Law.law S.state S.spells worker.seat.who (A.seen access) worker.seat worker.desks.items }
+    requires worker { WorkerOk A.Law.law S.meaning worker.seat.who (A.seen access) worker.seat worker.desks.items }
     requires can { Y.can A.Law.law line (node_of worker.seat (A.seen access)) }
     ensures desks { result.part.desks ≡ worker.desks }
     ensures who { A.who result.access ≡ A.who access }
-    ensures left { IsLeft A.Law.law S.state S.spells A.beside Y.seals (A.seen access) worker.seat (A.seen result.access) result.part.seat }
-    ensures worker { OnOk result.answer (WorkerOk A.Law.law S.state S.spells worker.seat.who (A.seen result.access) result.part.seat result.part.desks.items) }
+    ensures left { IsLeft A.Law.law S.meaning A.beside Y.seals (A.seen access) worker.seat (A.seen result.access) result.part.seat }
+    ensures worker { OnOk result.answer (WorkerOk A.Law.law S.meaning worker.seat.who (A.seen result.access) result.part.seat result.part.desks.items) }
     ensures kept { OnOk result.answer (IsKept A.beside A.Law.law.floor result.part.seat (A.seen result.access)) }
     ensures adds { IfOk result.answer (Y.adds line (node_of worker.seat (A.seen access)) (node_of result.part.seat (A.seen result.access))) }
     ensures did { IfOk result.answer (Y.did (record A.Law.law { may = OwnWithin worker.seat.who A.Law.law.may (sent_by worker.desks.items) }) line (node_of worker.seat (A.seen access)) (node_of result.part.seat (A.seen result.access))) }
@@ -100,12 +100,12 @@ pub fn own_line<A: Access, S: Replica, C: Chooser, Y: OwnLine>(
     requires run { MayRun A.Law.law }
     requires who { worker.seat.who ≡ A.who access }
     requires kept { IsKept A.beside A.Law.law.floor worker.seat (A.seen access) }
-    requires worker { WorkerOk A.Law.law S.state S.spells worker.seat.who (A.seen access) worker.seat worker.desks.items }
+    requires worker { WorkerOk A.Law.law S.meaning worker.seat.who (A.seen access) worker.seat worker.desks.items }
     requires can { Y.can A.Law.law line (node_of worker.seat (A.seen access)) }
     ensures desks { result.part.desks ≡ worker.desks }
     ensures who { A.who result.access ≡ A.who access }
-    ensures left { IsLeft A.Law.law S.state S.spells A.beside Y.seals (A.seen access) worker.seat (A.seen result.access) result.part.seat }
-    ensures worker { OnOk result.answer (WorkerOk A.Law.law S.state S.spells worker.seat.who (A.seen result.access) result.part.seat result.part.desks.items) }
+    ensures left { IsLeft A.Law.law S.meaning A.beside Y.seals (A.seen access) worker.seat (A.seen result.access) result.part.seat }
+    ensures worker { OnOk result.answer (WorkerOk A.Law.law S.meaning worker.seat.who (A.seen result.access) result.part.seat result.part.desks.items) }
     ensures kept { OnOk result.answer (IsKept A.beside A.Law.law.floor result.part.seat (A.seen result.access)) }
     ensures adds { IfOk result.answer (Y.adds line (node_of worker.seat (A.seen access)) (node_of result.part.seat (A.seen result.access))) }
     ensures did { IfOk result.answer (Y.did (record A.Law.law { may = OwnWithin worker.seat.who A.Law.law.may (sent_by worker.desks.items) }) line (node_of worker.seat (A.seen access)) (node_of result.part.seat (A.seen result.access))) }

@@ -52,7 +52,7 @@ pub trait NodeStep {
     ) -> Result<Self::Answer, AllocError>
         requires floor { (log : List Entry) (n : ℕ) → T.Law.law.floor log n → n ≤ length log }
         requires legal { IsLegal T.Law.law node.old.seen }
-        requires follows { Follows Holds R.state R.spells node.old.seen node.old.replica }
+        requires follows { Follows Holds R.meaning node.old.seen node.old.replica }
         requires stays { stays → KeepsFrom T.Law.law node.old.replica.cursor }
         requires right { seals node.old.who → T.Law.seals node.old.who }
         requires can { can T.Law.law self on.old node.old }

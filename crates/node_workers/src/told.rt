@@ -32,12 +32,12 @@ pub fn tell<A: Access, E: Sent, S: Replica, C: Chooser>(
 ) -> Back<A, Seat<S, C>, Option<Cause>>
     requires run { MayRun A.Law.law }
     requires who { seat.who ≡ A.who access }
-    requires seat { SeatOk (record A.Law.law { may = Sends seat.who A.Law.law.may E.counts (A.seen access) }) S.state S.spells (A.seen access) seat }
+    requires seat { SeatOk (record A.Law.law { may = Sends seat.who A.Law.law.may E.counts (A.seen access) }) S.meaning (A.seen access) seat }
     requires can { MayTell (OwnWithin seat.who A.Law.law.may E.counts) item (node_of seat (A.seen access)) }
     ensures who { A.who result.access ≡ A.who access }
     ensures sits { result.part.who ≡ A.who result.access }
-    ensures left { IsLeft A.Law.law S.state S.spells A.beside ⊥ (A.seen access) seat (A.seen result.access) result.part }
-    ensures ok { OnOk result.answer (SeatOk (record A.Law.law { may = Sends result.part.who A.Law.law.may E.counts (A.seen result.access) }) S.state S.spells (A.seen result.access) result.part) }
+    ensures left { IsLeft A.Law.law S.meaning A.beside ⊥ (A.seen access) seat (A.seen result.access) result.part }
+    ensures ok { OnOk result.answer (SeatOk (record A.Law.law { may = Sends result.part.who A.Law.law.may E.counts (A.seen result.access) }) S.meaning (A.seen result.access) result.part) }
     ensures kept { StaysKept A.beside A.Law.law.floor seat (A.seen access) item → OnOk result.answer (IsKept A.beside A.Law.law.floor result.part (A.seen result.access)) }
     ensures adds { OnOk result.answer (OwnAdds seat.who (λ e. IsOfSessions e ⊎ (e ≡ packed seat.node.replica.origin (item ∷ []))) (A.seen access) (A.seen result.access)) }
     ensures did { IfOk result.answer (Tells (record A.Law.law { may = OwnWithin seat.who A.Law.law.may E.counts }) (node_of seat (A.seen access)) (node_of result.part (A.seen result.access)) item) }
@@ -53,12 +53,12 @@ pub fn tell_and_play<A: Access, E: Sent, S: Replica, C: Chooser>(
 ) -> Back<A, Seat<S, C>, Option<Cause>>
     requires run { MayRun A.Law.law }
     requires who { seat.who ≡ A.who access }
-    requires seat { SeatOk (record A.Law.law { may = Sends seat.who A.Law.law.may E.counts (A.seen access) }) S.state S.spells (A.seen access) seat }
+    requires seat { SeatOk (record A.Law.law { may = Sends seat.who A.Law.law.may E.counts (A.seen access) }) S.meaning (A.seen access) seat }
     requires can { MayTell (OwnWithin seat.who A.Law.law.may E.counts) item (node_of seat (A.seen access)) }
     ensures who { A.who result.access ≡ A.who access }
     ensures sits { result.part.who ≡ A.who result.access }
-    ensures left { IsLeft A.Law.law S.state S.spells A.beside ⊥ (A.seen access) seat (A.seen result.access) result.part }
-    ensures ok { OnOk result.answer (SeatOk (record A.Law.law { may = Sends result.part.who A.Law.law.may E.counts (A.seen result.access) }) S.state S.spells (A.seen result.access) result.part) }
+    ensures left { IsLeft A.Law.law S.meaning A.beside ⊥ (A.seen access) seat (A.seen result.access) result.part }
+    ensures ok { OnOk result.answer (SeatOk (record A.Law.law { may = Sends result.part.who A.Law.law.may E.counts (A.seen result.access) }) S.meaning (A.seen result.access) result.part) }
     ensures kept { StaysKept A.beside A.Law.law.floor seat (A.seen access) item → OnOk result.answer (IsKept A.beside A.Law.law.floor result.part (A.seen result.access)) }
     ensures adds { OnOk result.answer (OwnAdds seat.who (λ e. IsOfSessions e ⊎ (e ≡ packed seat.node.replica.origin (item ∷ []))) (A.seen access) (A.seen result.access)) }
     ensures did { IfOk result.answer (TellsAndPlays (record A.Law.law { may = OwnWithin seat.who A.Law.law.may E.counts }) (node_of seat (A.seen access)) (node_of result.part (A.seen result.access)) item) }

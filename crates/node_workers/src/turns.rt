@@ -52,7 +52,7 @@ fn log_at<A: Access, E: Sent, S: Replica, C: Chooser>(
     requires run { MayRun A.Law.law }
     requires who { seat.who ≡ A.who access }
     requires kept { IsKept A.beside A.Law.law.floor seat (A.seen access) }
-    requires seat { SeatOk (record A.Law.law { may = Sends seat.who A.Law.law.may E.counts (A.seen access) }) S.state S.spells (A.seen access) seat }
+    requires seat { SeatOk (record A.Law.law { may = Sends seat.who A.Law.law.may E.counts (A.seen access) }) S.meaning (A.seen access) seat }
     requires origin { seat.node.replica.origin ≡ seat.who }
     requires packs { CanPack seat.node.replica.kept }
     requires waits { All IsOfSession seat.node.replica.kept }
@@ -66,8 +66,8 @@ fn log_at<A: Access, E: Sent, S: Replica, C: Chooser>(
     requires own { A.Law.law.may seat.who (packed seat.who (session_item session (desk.old.asked + 1) command.now ∷ [])) }
     ensures who { A.who result.access ≡ A.who access }
     ensures sits { result.part.who ≡ A.who result.access }
-    ensures left { IsLeft A.Law.law S.state S.spells A.beside ⊥ (A.seen access) seat (A.seen result.access) result.part }
-    ensures ok { OnOk result.answer (SeatOk (record A.Law.law { may = Sends result.part.who A.Law.law.may (slice_set E.counts session desk.new.sent) (A.seen result.access) }) S.state S.spells (A.seen result.access) result.part) }
+    ensures left { IsLeft A.Law.law S.meaning A.beside ⊥ (A.seen access) seat (A.seen result.access) result.part }
+    ensures ok { OnOk result.answer (SeatOk (record A.Law.law { may = Sends result.part.who A.Law.law.may (slice_set E.counts session desk.new.sent) (A.seen result.access) }) S.meaning (A.seen result.access) result.part) }
     ensures kept { OnOk result.answer (IsKept A.beside A.Law.law.floor result.part (A.seen result.access)) }
     ensures adds { OnOk result.answer (OwnAdds seat.who IsOfSessions (A.seen access) (A.seen result.access)) }
     ensures waits { OnOk result.answer (All IsOfSession result.part.node.replica.kept) }
@@ -103,15 +103,15 @@ fn log_by<A: Access, E: Sent, S: Replica, C: Chooser>(
     requires run { MayRun A.Law.law }
     requires who { worker.seat.who ≡ A.who access }
     requires kept { IsKept A.beside A.Law.law.floor worker.seat (A.seen access) }
-    requires worker { WorkerOk A.Law.law S.state S.spells worker.seat.who (A.seen access) worker.seat worker.desks.items }
+    requires worker { WorkerOk A.Law.law S.meaning worker.seat.who (A.seen access) worker.seat worker.desks.items }
     requires home { IsHome A.Law.law.may session worker.seat.who }
     requires few { (d : Desk) → slice_get worker.desks.items session ≡ Some d → d.asked < 20000 }
     requires spelled { IsSpellable command.now }
     requires short { command_length command.now ≤ 984 }
     requires own { (d : Desk) → slice_get worker.desks.items session ≡ Some d → A.Law.law.may worker.seat.who (packed worker.seat.who (session_item session (d.asked + 1) command.now ∷ [])) }
     ensures who { A.who result.access ≡ A.who access }
-    ensures left { IsLeft A.Law.law S.state S.spells A.beside ⊥ (A.seen access) worker.seat (A.seen result.access) result.part.seat }
-    ensures worker { OnOk result.answer (WorkerOk A.Law.law S.state S.spells worker.seat.who (A.seen result.access) result.part.seat result.part.desks.items) }
+    ensures left { IsLeft A.Law.law S.meaning A.beside ⊥ (A.seen access) worker.seat (A.seen result.access) result.part.seat }
+    ensures worker { OnOk result.answer (WorkerOk A.Law.law S.meaning worker.seat.who (A.seen result.access) result.part.seat result.part.desks.items) }
     ensures kept { OnOk result.answer (IsKept A.beside A.Law.law.floor result.part.seat (A.seen result.access)) }
     ensures adds { OnOk result.answer (OwnAdds worker.seat.who IsOfSessions (A.seen access) (A.seen result.access)) }
     ensures logs { OnOk result.answer (Logs A.Law.law (node_of worker.seat (A.seen access)) (node_of result.part.seat (A.seen result.access)) session worker.desks.items result.part.desks.items) }
@@ -142,15 +142,15 @@ pub fn log_line<A: Access, S: Replica, C: Chooser>(
     requires run { MayRun A.Law.law }
     requires who { worker.seat.who ≡ A.who access }
     requires kept { IsKept A.beside A.Law.law.floor worker.seat (A.seen access) }
-    requires worker { WorkerOk A.Law.law S.state S.spells worker.seat.who (A.seen access) worker.seat worker.desks.items }
+    requires worker { WorkerOk A.Law.law S.meaning worker.seat.who (A.seen access) worker.seat worker.desks.items }
     requires home { IsHome A.Law.law.may session worker.seat.who }
     requires few { (d : Desk) → slice_get worker.desks.items session ≡ Some d → d.asked < 20000 }
     requires spelled { IsSpellable command.now }
     requires short { command_length command.now ≤ 984 }
     requires own { (d : Desk) → slice_get worker.desks.items session ≡ Some d → A.Law.law.may worker.seat.who (packed worker.seat.who (session_item session (d.asked + 1) command.now ∷ [])) }
     ensures who { A.who result.access ≡ A.who access }
-    ensures left { IsLeft A.Law.law S.state S.spells A.beside ⊥ (A.seen access) worker.seat (A.seen result.access) result.part.seat }
-    ensures worker { OnOk result.answer (WorkerOk A.Law.law S.state S.spells worker.seat.who (A.seen result.access) result.part.seat result.part.desks.items) }
+    ensures left { IsLeft A.Law.law S.meaning A.beside ⊥ (A.seen access) worker.seat (A.seen result.access) result.part.seat }
+    ensures worker { OnOk result.answer (WorkerOk A.Law.law S.meaning worker.seat.who (A.seen result.access) result.part.seat result.part.desks.items) }
     ensures kept { OnOk result.answer (IsKept A.beside A.Law.law.floor result.part.seat (A.seen result.access)) }
     ensures adds { OnOk result.answer (OwnAdds worker.seat.who IsOfSessions (A.seen access) (A.seen result.access)) }
     ensures logs { OnOk result.answer (Logs A.Law.law (node_of worker.seat (A.seen access)) (node_of result.part.seat (A.seen result.access)) session worker.desks.items result.part.desks.items) }
@@ -169,12 +169,12 @@ fn look_by<A: Access, E: Sent, S: Replica, C: Chooser>(
     requires run { MayRun A.Law.law }
     requires who { worker.seat.who ≡ A.who access }
     requires kept { IsKept A.beside A.Law.law.floor worker.seat (A.seen access) }
-    requires worker { WorkerOk A.Law.law S.state S.spells worker.seat.who (A.seen access) worker.seat worker.desks.items }
+    requires worker { WorkerOk A.Law.law S.meaning worker.seat.who (A.seen access) worker.seat worker.desks.items }
     requires home { IsHome A.Law.law.may session worker.seat.who }
     ensures desks { result.part.desks ≡ worker.desks }
     ensures who { A.who result.access ≡ A.who access }
-    ensures left { IsLeft A.Law.law S.state S.spells A.beside ⊥ (A.seen access) worker.seat (A.seen result.access) result.part.seat }
-    ensures worker { IfOk result.answer (λ l. WorkerOk A.Law.law S.state S.spells worker.seat.who (A.seen result.access) result.part.seat result.part.desks.items) }
+    ensures left { IsLeft A.Law.law S.meaning A.beside ⊥ (A.seen access) worker.seat (A.seen result.access) result.part.seat }
+    ensures worker { IfOk result.answer (λ l. WorkerOk A.Law.law S.meaning worker.seat.who (A.seen result.access) result.part.seat result.part.desks.items) }
     ensures kept { IfOk result.answer (λ l. IsKept A.beside A.Law.law.floor result.part.seat (A.seen result.access)) }
     ensures adds { IfOk result.answer (λ l. OwnAdds worker.seat.who IsOfSessions (A.seen access) (A.seen result.access)) }
     ensures looks { IfOk result.answer (λ l. (d : Desk) → slice_get worker.desks.items session ≡ Some d → Looks (record A.Law.law { may = OwnWithin worker.seat.who A.Law.law.may (sent_by worker.desks.items) }) (node_of worker.seat (A.seen access)) (node_of result.part.seat (A.seen result.access)) d query.now l) }
@@ -207,12 +207,12 @@ pub fn look_line<A: Access, S: Replica, C: Chooser>(
     requires run { MayRun A.Law.law }
     requires who { worker.seat.who ≡ A.who access }
     requires kept { IsKept A.beside A.Law.law.floor worker.seat (A.seen access) }
-    requires worker { WorkerOk A.Law.law S.state S.spells worker.seat.who (A.seen access) worker.seat worker.desks.items }
+    requires worker { WorkerOk A.Law.law S.meaning worker.seat.who (A.seen access) worker.seat worker.desks.items }
     requires home { IsHome A.Law.law.may session worker.seat.who }
     ensures desks { result.part.desks ≡ worker.desks }
     ensures who { A.who result.access ≡ A.who access }
-    ensures left { IsLeft A.Law.law S.state S.spells A.beside ⊥ (A.seen access) worker.seat (A.seen result.access) result.part.seat }
-    ensures worker { IfOk result.answer (λ l. WorkerOk A.Law.law S.state S.spells worker.seat.who (A.seen result.access) result.part.seat result.part.desks.items) }
+    ensures left { IsLeft A.Law.law S.meaning A.beside ⊥ (A.seen access) worker.seat (A.seen result.access) result.part.seat }
+    ensures worker { IfOk result.answer (λ l. WorkerOk A.Law.law S.meaning worker.seat.who (A.seen result.access) result.part.seat result.part.desks.items) }
     ensures kept { IfOk result.answer (λ l. IsKept A.beside A.Law.law.floor result.part.seat (A.seen result.access)) }
     ensures adds { IfOk result.answer (λ l. OwnAdds worker.seat.who IsOfSessions (A.seen access) (A.seen result.access)) }
     ensures looks { IfOk result.answer (λ l. (d : Desk) → slice_get worker.desks.items session ≡ Some d → Looks (record A.Law.law { may = OwnWithin worker.seat.who A.Law.law.may (sent_by worker.desks.items) }) (node_of worker.seat (A.seen access)) (node_of result.part.seat (A.seen result.access)) d query.now l) }
@@ -229,10 +229,10 @@ pub fn end_phase<A: Access, S: Replica, C: Chooser>(
     requires run { MayRun A.Law.law }
     requires who { worker.seat.who ≡ A.who access }
     requires stays { IsKept A.beside A.Law.law.floor worker.seat (A.seen access) ⊎ AllAnswered (node_of worker.seat (A.seen access)) worker.desks.items }
-    requires worker { WorkerOk A.Law.law S.state S.spells worker.seat.who (A.seen access) worker.seat worker.desks.items }
+    requires worker { WorkerOk A.Law.law S.meaning worker.seat.who (A.seen access) worker.seat worker.desks.items }
     ensures who { A.who result.access ≡ A.who access }
-    ensures left { IsLeft A.Law.law S.state S.spells A.beside ⊥ (A.seen access) worker.seat (A.seen result.access) result.part.seat }
-    ensures worker { IfOk result.answer (λ f. WorkerOk A.Law.law S.state S.spells worker.seat.who (A.seen result.access) result.part.seat result.part.desks.items) }
+    ensures left { IsLeft A.Law.law S.meaning A.beside ⊥ (A.seen access) worker.seat (A.seen result.access) result.part.seat }
+    ensures worker { IfOk result.answer (λ f. WorkerOk A.Law.law S.meaning worker.seat.who (A.seen result.access) result.part.seat result.part.desks.items) }
     ensures kept { IsKept A.beside A.Law.law.floor worker.seat (A.seen access) → IfOk result.answer (λ f. IsKept A.beside A.Law.law.floor result.part.seat (A.seen result.access)) }
 
     // Nothing is trimmed above where the node was before.

@@ -28,7 +28,7 @@ pub fn within<A: Access, Q: Scope, S: Replica, C: Chooser, X: NodeStep>(
     requires floor { (log : List Entry) (n : ℕ) → Q.law.floor log n → n ≤ length log }
     requires who { seat.who ≡ A.who access }
     requires narrows { Narrows Q.law A.Law.law (A.beside (A.who access)) }
-    requires seat { SeatOk Q.law S.state S.spells (A.seen access) seat }
+    requires seat { SeatOk Q.law S.meaning (A.seen access) seat }
     requires whose { Q.who ≡ A.who access }
     requires since { Q.since ≡ A.seen access }
     requires stays { X.stays → KeepsFrom Q.law seat.node.replica.cursor }
@@ -36,7 +36,7 @@ pub fn within<A: Access, Q: Scope, S: Replica, C: Chooser, X: NodeStep>(
     requires can { X.can Q.law step on.old (node_of seat (A.seen access)) }
     ensures who { A.who result.access ≡ A.who access }
     ensures sits { result.part.who ≡ A.who result.access }
-    ensures seat { SeatOk Q.law S.state S.spells (A.seen result.access) result.part }
+    ensures seat { SeatOk Q.law S.meaning (A.seen result.access) result.part }
     ensures since { Since result.part.who (A.beside result.part.who) (A.seen access) (A.seen result.access) }
     ensures right { SealsByRight (Q.seals result.part.who) result.part.who (A.seen access) (A.seen result.access) }
     ensures did { IfOk result.answer (X.did Q.law step on.old on.new (node_of seat (A.seen access)) (node_of result.part (A.seen result.access))) }
@@ -62,16 +62,16 @@ pub fn in_turn<A: Access, E: Sent, S: Replica, C: Chooser, X: NodeStep>(
 ) -> Back<A, Seat<S, C>, X::Answer>
     requires run { MayRun A.Law.law }
     requires who { seat.who ≡ A.who access }
-    requires seat { SeatOk (record A.Law.law { may = Sends seat.who A.Law.law.may E.counts (A.seen access) }) S.state S.spells (A.seen access) seat }
+    requires seat { SeatOk (record A.Law.law { may = Sends seat.who A.Law.law.may E.counts (A.seen access) }) S.meaning (A.seen access) seat }
     requires stays { X.stays → IsKept A.beside A.Law.law.floor seat (A.seen access) }
     requires can { X.can (record A.Law.law { may = Sends seat.who A.Law.law.may E.counts (A.seen access); floor = UpToIf (IsKept A.beside A.Law.law.floor seat (A.seen access)) A.Law.law.floor seat.node.replica.cursor }) step on.old (node_of seat (A.seen access)) }
     ensures who { A.who result.access ≡ A.who access }
     ensures sits { result.part.who ≡ A.who result.access }
-    ensures left { IsLeft A.Law.law S.state S.spells A.beside (X.seals seat.who) (A.seen access) seat (A.seen result.access) result.part }
+    ensures left { IsLeft A.Law.law S.meaning A.beside (X.seals seat.who) (A.seen access) seat (A.seen result.access) result.part }
 
     // Nothing is trimmed above where the node was before.
     ensures low { IsKept A.beside A.Law.law.floor seat (A.seen access) → TrimsUpTo seat.node.replica.cursor (A.seen result.access) }
-    ensures ok { OnOk result.answer (SeatOk (record A.Law.law { may = Sends result.part.who A.Law.law.may E.counts (A.seen result.access) }) S.state S.spells (A.seen result.access) result.part) }
+    ensures ok { OnOk result.answer (SeatOk (record A.Law.law { may = Sends result.part.who A.Law.law.may E.counts (A.seen result.access) }) S.meaning (A.seen result.access) result.part) }
     ensures kept { IsKept A.beside A.Law.law.floor seat (A.seen access) → OnOk result.answer (IsKept A.beside A.Law.law.floor result.part (A.seen result.access)) }
     ensures adds { OnOk result.answer (OwnAdds seat.who IsOfSessions (A.seen access) (A.seen result.access)) }
     ensures did { IfOk result.answer (X.did (record A.Law.law { may = OwnWithin seat.who A.Law.law.may E.counts }) step on.old on.new (node_of seat (A.seen access)) (node_of result.part (A.seen result.access))) }

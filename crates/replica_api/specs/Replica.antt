@@ -17,6 +17,12 @@ pub record Saved : Type 0 where
   pub cursor : ℕ
   pub contents : SpaceMap
 
+-- what a replica's log and its disk mean: these entries, from position 0 on, lead to this space; these bytes spell this
+-- cursor and this space
+pub record Meaning : Type 1 where
+  pub state : List Entry → SpaceMap → Type 0
+  pub spells : List ℕ → Saved → Type 0
+
 -- what it shows; what the disk failed to keep, and a crash may have kept; whether it is down; its disk and the counted
 -- faults; the node of its entries; the items that wait to be packed; whether the disk is armed, which it isn't while the
 -- replica is down; and the count or word that the last stop or reopening was given

@@ -1,9 +1,9 @@
 //! The state machine of a node: the stack of engines over its store.
-ghost use Rattle.std.specs.Prelude.{◌≡◌, ℕ, ◌+◌, ◌<◌, ◌^◌, List, true, IfOk, OnErr};
+ghost use Rattle.std.specs.Prelude.{◌≡◌, ◌+◌, ◌<◌, ◌^◌, List, true, IfOk, OnErr};
 ghost use Rattle.delos_types.specs.Spaces.{SpaceMap, least_key_from};
 ghost use Rattle.delos_types.specs.declared.entry.Entry.{Entry};
 ghost use Rattle.disk_model.specs.Crash.{AnyCrash};
-ghost use Rattle.replica_api.specs.Replica.{Saved, ReplicaView, SpellsOne, Survives, Takes, MayFind, MayFindDuring, Reopens, Queues, Flushes, armed_by};
+ghost use Rattle.replica_api.specs.Replica.{Meaning, ReplicaView, SpellsOne, Survives, Takes, MayFind, MayFindDuring, Reopens, Queues, Flushes, armed_by};
 ghost use Rattle.engine_api.specs.Packing.{IsProposable};
 ghost use Rattle.engine_steps.specs.Layout as layout;
 ghost use Rattle.log_laws.specs.State.{IsStateOf};
@@ -39,11 +39,8 @@ pub enum Reopened {
 pub trait Replica {
     ghost shows: { Self → ReplicaView };
 
-    /// The bytes of a disk spell this cursor and this space.
-    ghost spells: { List ℕ → Saved → Type 0 };
-
-    /// These entries, from position 0 on, lead to this space.
-    ghost state: { List Entry → SpaceMap → Type 0 };
+    /// What its bytes and its log mean.
+    ghost meaning: { Meaning };
 
     fn cursor(&self) -> u64
         ensures cursor { result ≡ (shows self.now).cursor };
@@ -54,15 +51,15 @@ pub trait Replica {
     /// The entry comes up at the cursor: what it does is kept in one transaction with the next cursor.
     fn apply(&mut self, entry: &Entry) -> Applied
         requires { (shows self.old).cursor + 1 < 2 ^ 64 }
-        ensures takes { Takes state (shows self.old) entry.now result (shows self.new) }
-        ensures survives { Survives spells (shows self.new) }
-        ensures any_crash { AnyCrash (shows self.old).disk (shows self.new).disk (SpellsOne spells (MayFindDuring state (shows self.old) entry.now)) };
+        ensures takes { Takes meaning.state (shows self.old) entry.now result (shows self.new) }
+        ensures survives { Survives meaning.spells (shows self.new) }
+        ensures any_crash { AnyCrash (shows self.old).disk (shows self.new).disk (SpellsOne meaning.spells (MayFindDuring meaning.state (shows self.old) entry.now)) };
 
     /// Opens the store again, where it is down. The word chooses what the disk kept.
     fn reopen(&mut self, word: u64) -> Reopened
         ensures reopens { Reopens (shows self.old) word result (shows self.new) }
-        ensures survives { Survives spells (shows self.new) }
-        ensures any_crash { AnyCrash (shows self.old).disk (shows self.new).disk (SpellsOne spells (MayFind (shows self.old))) };
+        ensures survives { Survives meaning.spells (shows self.new) }
+        ensures any_crash { AnyCrash (shows self.old).disk (shows self.new).disk (SpellsOne meaning.spells (MayFind (shows self.old))) };
 
     /// An item goes down through the engines. It waits there, or is packed with the 15 that wait.
     fn send(&mut self, item: Item) -> Result<Option<Entry>, AllocError>
@@ -115,5 +112,5 @@ pub trait Replica {
         ensures { IfOk result (λ found. found ≡ least_key_from (shows self.now).contents 5 key.now) };
 
     /// What it keeps is the state of the log.
-    ghost state_is: { (log : List Entry) (m : SpaceMap) → state log m → IsStateOf log m };
+    ghost state_is: { (log : List Entry) (m : SpaceMap) → meaning.state log m → IsStateOf log m };
 }

@@ -3,12 +3,11 @@ use Rattle.std.proofs.Common.{◌≡◌, refl, sym, ap, ◌∙◌, subst, inl, �
 use Rattle.std.specs.Prelude.{get_or, option_map}
 use Rattle.std.proofs.lemmas.List.{append_cancel_left, length-map}
 use Rattle.std.proofs.lemmas.Option.{slice_get-map, slice_get_within}
-use Rattle.delos_types.specs.Spaces.{SpaceMap}
 use Rattle.delos_types.specs.declared.entry.Entry.{Entry}
 use Rattle.legal_journal.specs.Law.{Law}
 use Rattle.legal_journal.specs.declared.events.Event.{Event}
 use Rattle.virtual_log.specs.declared.extend.Extension.TheVariants.{Moved}
-use Rattle.replica_api.specs.Replica.{Saved}
+use Rattle.replica_api.specs.Replica.{Meaning}
 use Rattle.script_text.specs.declared.asks.NamedLine.{NamedLine}
 use Rattle.turn_scopes.specs.Seats.{SeatView}
 use Rattle.node_lines.specs.declared.desk.Desk.{Desk}
@@ -72,15 +71,15 @@ moved_beside law lines home nodes run looks courses journal are join seen made o
     line : HasLineIn lines l.phase event.event.who
     line = work.each event.event (contains-among work.more event.event among)
 
-module _ {A : Type 0} (law : Law) (state : List Entry → SpaceMap → Type 0) (spells : List ℕ → Saved → Type 0) (lines : List NamedLine) (seat : A → SeatView) (desks : A → List Desk) (workers : List A) (journal : List Event) (looks : List (Option Looked)) where
+module _ {A : Type 0} (law : Law) (meaning : Meaning) (lines : List NamedLine) (seat : A → SeatView) (desks : A → List Desk) (workers : List A) (journal : List Event) (looks : List (Option Looked)) where
   abbrev ends : List WorkerEnd
   ends = map (λ w. record { seat = seat w; desks = desks w }) workers
 
   long : length ends ≡ length workers
   long = length-map workers (λ w. record { seat = seat w; desks = desks w })
 
-  pub has_closed : (node cursor : ℕ) → CrewTakes law state spells lines node cursor (length workers) journal looks seat desks workers
-      → (log : List Entry) × (length log ≡ cursor) × HasClosed law state spells lines journal looks log (map (λ w. record { seat = seat w; desks = desks w }) workers)
+  pub has_closed : (node cursor : ℕ) → CrewTakes law meaning lines node cursor (length workers) journal looks seat desks workers
+      → (log : List Entry) × (length log ≡ cursor) × HasClosed law meaning lines journal looks log (map (λ w. record { seat = seat w; desks = desks w }) workers)
   has_closed node cursor h = (
     h.log,
     h.size,
@@ -94,8 +93,8 @@ module _ {A : Type 0} (law : Law) (state : List Entry → SpaceMap → Type 0) (
       over = h.over;
       front = h.front;
       each = λ j e at. let from = mapped (λ (w : A). record { seat = seat w; desks = desks w }) workers j e at in
-          subst (λ n. WorkerClosed law state spells lines h.home n (h.courses (j + 1)) looks h.log (j + 1) e) (sym long)
-          (subst (WorkerClosed law state spells lines h.home (length workers) (h.courses (j + 1)) looks h.log (j + 1)) from.2
+          subst (λ n. WorkerClosed law meaning lines h.home n (h.courses (j + 1)) looks h.log (j + 1) e) (sym long)
+          (subst (WorkerClosed law meaning lines h.home (length workers) (h.courses (j + 1)) looks h.log (j + 1)) from.2
           (h.taken j from.0 (slice_get_within workers j from.0 from.1) from.1));
       beside = λ i l version at look. moved_beside law lines h.home (length workers) h.run looks h.courses journal h.lines_are h.joined h.seen_is h.made h.over i l version at look;
       seals = subst (λ n. SealsOfNodes n journal) (sym long) h.seals;

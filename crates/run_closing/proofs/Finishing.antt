@@ -4,14 +4,12 @@ use Rattle.std.specs.Prelude.{slice_get, slice_set}
 use Rattle.std.proofs.lemmas.Bool.{cases_lt}
 use Rattle.std.proofs.lemmas.List.{length-set}
 use Rattle.std.proofs.lemmas.Option.{slice_get_within}
-use Rattle.delos_types.specs.Spaces.{SpaceMap}
-use Rattle.delos_types.specs.declared.entry.Entry.{Entry}
 use Rattle.legal_journal.specs.Law.{Law}
 use Rattle.legal_journal.specs.declared.events.Event.{Event}
 use Rattle.virtual_log.specs.Sealing.{SealsNone}
 use Rattle.engine_steps.specs.Layout.{has_left_in}
 use Rattle.base_engine.specs.Node.{NodeView}
-use Rattle.replica_api.specs.Replica.{Saved}
+use Rattle.replica_api.specs.Replica.{Meaning}
 use Rattle.script_text.specs.declared.asks.NamedLine.{NamedLine}
 use Rattle.turn_scopes.specs.Alone.{OwnSince}
 use Rattle.turn_scopes.specs.Seats.{SeatView, SeatOk, node_of}
@@ -37,13 +35,13 @@ use Rattle.run_closing.specs.Ending.{Finishes, HasGone, IsCalled, PlaysOut}
 use Rattle.run_closing.specs.Finishing.{AllLeft, AreCalls, HasFinished, HasLeft, HasMost, IsMost, MembersPlay, PassesBut, PassesBy, PlaysAt, PlaysLast, StaysAsItWas}
 use Rattle.run_closing.proofs.Putting.{same_some, some_at}
 
-module _ {A : Type 0} (law : Law) (state : List Entry → SpaceMap → Type 0) (spells : List ℕ → Saved → Type 0) (lines : List NamedLine) (seat : A → SeatView) (desks : A → List Desk) (workers : List A) (from phase : ℕ) (journal : List Event) (looks : List (Option Looked)) (h : CrewRests law state spells lines from phase journal looks seat desks workers) where
+module _ {A : Type 0} (law : Law) (meaning : Meaning) (lines : List NamedLine) (seat : A → SeatView) (desks : A → List Desk) (workers : List A) (from phase : ℕ) (journal : List Event) (looks : List (Option Looked)) (h : CrewRests law meaning lines from phase journal looks seat desks workers) where
   pub seen_at : (k : ℕ) (w : A) → slice_get workers k ≡ Some w → HasSeenAll phase h.begins journal (h.courses (k + 1))
   seen_at k w at = let inside = slice_get_within workers k w at in h.seen (k + 1) (omega arith) (omega (arith, inside))
 
   -- nodes that rest can take the fabric
-  pub rests_stand : CrewStands law state spells journal seat workers
-  rests_stand j w at = subst (λ i. SeatOk law state spells i (seat w)) (seen_at j w at).seen_is (worker_stands law state spells (j + 1) (h.courses (j + 1)).seen (seat w) (desks w) (h.each j w at).node.ok)
+  pub rests_stand : CrewStands law meaning journal seat workers
+  rests_stand j w at = subst (λ i. SeatOk law meaning i (seat w)) (seen_at j w at).seen_is (worker_stands law meaning (j + 1) (h.courses (j + 1)).seen (seat w) (desks w) (h.each j w at).node.ok)
 
   -- there is a node
   pub some_node : 0 < length workers
@@ -62,12 +60,12 @@ module _ {A : Type 0} (law : Law) (state : List Entry → SpaceMap → Type 0) (
   looks_size = let w = some_at workers 0 some_node in (h.each 0 w.0 w.1).node.did.size
 
   -- a node's own turn
-  pub own_ok : (k : ℕ) (w : A) → slice_get workers k ≡ Some w → WorkerOk law state spells (seat w).who journal (seat w) (desks w)
+  pub own_ok : (k : ℕ) (w : A) → slice_get workers k ≡ Some w → WorkerOk law meaning (seat w).who journal (seat w) (desks w)
   own_ok k w at =
       let ok = (h.each k w at).node.ok in
-      subst (λ n. WorkerOk law state spells n journal (seat w) (desks w)) (sym ok.who_is) (subst (λ i. WorkerOk law state spells (k + 1) i (seat w) (desks w)) (seen_at k w at).seen_is ok)
+      subst (λ n. WorkerOk law meaning n journal (seat w) (desks w)) (sym ok.who_is) (subst (λ i. WorkerOk law meaning (k + 1) i (seat w) (desks w)) (seen_at k w at).seen_is ok)
 
-  module _ (run : MayRun law) (k : ℕ) (journal' : List Event) (w w' : A) (at : slice_get workers k ≡ Some w) (since : OwnSince (seat w).who journal journal') (still : SealsNone (seat w).who journal journal') (adds : OwnAdds (seat w).who IsOfSessions journal journal') (moves : Moves (record law { may = OwnWithin (seat w).who law.may (sent_by (desks w)) }) (node_of (seat w) journal) (node_of (seat w') journal') []) (same : (seat w').node.outbox ≡ (seat w).node.outbox) (now : WorkerOk law state spells (seat w).who journal' (seat w') (desks w')) (kept : desks w' ≡ desks w) where
+  module _ (run : MayRun law) (k : ℕ) (journal' : List Event) (w w' : A) (at : slice_get workers k ≡ Some w) (since : OwnSince (seat w).who journal journal') (still : SealsNone (seat w).who journal journal') (adds : OwnAdds (seat w).who IsOfSessions journal journal') (moves : Moves (record law { may = OwnWithin (seat w).who law.may (sent_by (desks w)) }) (node_of (seat w) journal) (node_of (seat w') journal') []) (same : (seat w').node.outbox ≡ (seat w).node.outbox) (now : WorkerOk law meaning (seat w).who journal' (seat w') (desks w')) (kept : desks w' ≡ desks w) where
     who : (seat w).who ≡ k + 1
     who = (h.each k w at).node.ok.who_is
 
@@ -80,28 +78,28 @@ module _ {A : Type 0} (law : Law) (state : List Entry → SpaceMap → Type 0) (
     pub rested_adds : OwnAdds (k + 1) IsOfSessions (h.courses (k + 1)).seen journal'
     rested_adds = subst (λ n. OwnAdds n IsOfSessions (h.courses (k + 1)).seen journal') who (subst (λ i. OwnAdds (seat w).who IsOfSessions i journal') (sym it.seen_is) adds)
 
-    pub rested : HasRested law state spells lines h.home (length workers) (h.courses (k + 1)) looks (k + 1) from phase journal' (seat w') (desks w')
-    rested = subst (HasRested law state spells lines h.home (length workers) (h.courses (k + 1)) looks (k + 1) from phase journal' (seat w')) (sym kept)
-        (node_finished law state spells run lines h.home (length workers) (h.courses (k + 1)) looks (k + 1) from phase (seat w) (seat w') (desks w) journal' h.ends (let is = it.phase_is in omega (arith, is)) (h.each k w at)
+    pub rested : HasRested law meaning lines h.home (length workers) (h.courses (k + 1)) looks (k + 1) from phase journal' (seat w') (desks w')
+    rested = subst (HasRested law meaning lines h.home (length workers) (h.courses (k + 1)) looks (k + 1) from phase journal' (seat w')) (sym kept)
+        (node_finished law meaning run lines h.home (length workers) (h.courses (k + 1)) looks (k + 1) from phase (seat w) (seat w') (desks w) journal' h.ends (let is = it.phase_is in omega (arith, is)) (h.each k w at)
         (subst (λ n. SealsNone n (h.courses (k + 1)).seen journal') who (subst (λ i. SealsNone (seat w).who i journal') (sym it.seen_is) still))
         rested_adds
         (subst (λ n. Moves (record law { may = OwnWithin n law.may (sent_by (desks w)) }) (node_of (seat w) (h.courses (k + 1)).seen) (node_of (seat w') journal') []) who
         (subst (λ i. Moves (record law { may = OwnWithin (seat w).who law.may (sent_by (desks w)) }) (node_of (seat w) i) (node_of (seat w') journal') []) (sym it.seen_is) moves)) same
-        (subst (λ n. WorkerOk law state spells n journal' (seat w') (desks w)) who (subst (WorkerOk law state spells (seat w).who journal' (seat w')) kept now)))
+        (subst (λ n. WorkerOk law meaning n journal' (seat w') (desks w)) who (subst (WorkerOk law meaning (seat w).who journal' (seat w')) kept now)))
 
     size : length (slice_set workers k w') ≡ length workers
     size = length-set workers k w'
 
-    each : (j : ℕ) (x : A) → ((j ≡ k) × (w' ≡ x)) ⊎ ((j ≢ k) × (slice_get workers j ≡ Some x)) → Rests law state spells lines h.home (length workers) (courses_then h.courses (k + 1) rested.course rested_since.more (j + 1)) looks (j + 1) from phase (seat x) (desks x)
+    each : (j : ℕ) (x : A) → ((j ≡ k) × (w' ≡ x)) ⊎ ((j ≢ k) × (slice_get workers j ≡ Some x)) → Rests law meaning lines h.home (length workers) (courses_then h.courses (k + 1) rested.course rested_since.more (j + 1)) looks (j + 1) from phase (seat x) (desks x)
     each j x (inl here) =
-        subst (λ y. Rests law state spells lines h.home (length workers) (courses_then h.courses (k + 1) rested.course rested_since.more (j + 1)) looks (j + 1) from phase (seat y) (desks y)) here.1
-        (subst (λ i. Rests law state spells lines h.home (length workers) (courses_then h.courses (k + 1) rested.course rested_since.more (i + 1)) looks (i + 1) from phase (seat w') (desks w')) (sym here.0)
-        (then_own law state spells lines seat desks workers run h.home h.courses phase h.begins from phase k journal journal' looks looks w w' at h.seen rested_since (keeps_none lines (k + 1) looks) rested))
+        subst (λ y. Rests law meaning lines h.home (length workers) (courses_then h.courses (k + 1) rested.course rested_since.more (j + 1)) looks (j + 1) from phase (seat y) (desks y)) here.1
+        (subst (λ i. Rests law meaning lines h.home (length workers) (courses_then h.courses (k + 1) rested.course rested_since.more (i + 1)) looks (i + 1) from phase (seat w') (desks w')) (sym here.0)
+        (then_own law meaning lines seat desks workers run h.home h.courses phase h.begins from phase k journal journal' looks looks w w' at h.seen rested_since (keeps_none lines (k + 1) looks) rested))
     each j x (inr other) =
-        then_others law state spells lines seat desks workers run h.home h.courses phase h.begins from phase k journal journal' looks looks w w' at h.seen rested_since (keeps_none lines (k + 1) looks) rested j from phase x other.0 other.1 (h.each j x other.1)
+        then_others law meaning lines seat desks workers run h.home h.courses phase h.begins from phase k journal journal' looks looks w w' at h.seen rested_since (keeps_none lines (k + 1) looks) rested j from phase x other.0 other.1 (h.each j x other.1)
 
     -- a node has made its last calls
-    pub crew_finished : from ≡ length lines → CrewRests law state spells lines from phase journal' looks seat desks (slice_set workers k w')
+    pub crew_finished : from ≡ length lines → CrewRests law meaning lines from phase journal' looks seat desks (slice_set workers k w')
     crew_finished over = record {
       home = h.home;
       courses = λ m. courses_then h.courses (k + 1) rested.course rested_since.more m;
@@ -113,10 +111,10 @@ module _ {A : Type 0} (law : Law) (state : List Entry → SpaceMap → Type 0) (
           let early = h.ends.before i l get (let inside = slice_get_within lines i l get in omega (arith, inside, over)) in
           worked_before lines phase h.begins journal journal' l.phase h.long (omega (arith, early)) (h.made i l get low);
       seals = subst (λ n. SealsOfNodes n journal') (sym size)
-          (then_seals law state spells lines seat desks workers run h.home h.courses phase h.begins from phase k journal journal' looks looks w w' at h.seen rested_since (keeps_none lines (k + 1) looks) rested h.seals);
-      behind = then_behind law state spells lines seat desks workers run h.home h.courses phase h.begins from phase k journal journal' looks looks w w' at h.seen rested_since (keeps_none lines (k + 1) looks) rested h.behind;
-      seen = λ n least most. then_seen law state spells lines seat desks workers run h.home h.courses phase h.begins from phase k journal journal' looks looks w w' at h.seen rested_since (keeps_none lines (k + 1) looks) rested n least (omega (arith, most, size));
-      each = λ j x is. subst (λ n. Rests law state spells lines h.home n (courses_then h.courses (k + 1) rested.course rested_since.more (j + 1)) looks (j + 1) from phase (seat x) (desks x)) (sym size) (each j x (changed workers k j w w' x at is));
+          (then_seals law meaning lines seat desks workers run h.home h.courses phase h.begins from phase k journal journal' looks looks w w' at h.seen rested_since (keeps_none lines (k + 1) looks) rested h.seals);
+      behind = then_behind law meaning lines seat desks workers run h.home h.courses phase h.begins from phase k journal journal' looks looks w w' at h.seen rested_since (keeps_none lines (k + 1) looks) rested h.behind;
+      seen = λ n least most. then_seen law meaning lines seat desks workers run h.home h.courses phase h.begins from phase k journal journal' looks looks w w' at h.seen rested_since (keeps_none lines (k + 1) looks) rested n least (omega (arith, most, size));
+      each = λ j x is. subst (λ n. Rests law meaning lines h.home n (courses_then h.courses (k + 1) rested.course rested_since.more (j + 1)) looks (j + 1) from phase (seat x) (desks x)) (sym size) (each j x (changed workers k j w w' x at is));
     }
 
 -- Which node has played most

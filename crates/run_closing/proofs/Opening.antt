@@ -3,8 +3,6 @@ use Rattle.std.proofs.Common.{◌≡◌, refl, sym, ap, ◌∙◌, subst, ⊎_el
 use Rattle.std.specs.Prelude.{get_or}
 use Rattle.std.proofs.lemmas.List.{append_cancel_left}
 use Rattle.std.proofs.lemmas.Option.{slice_get_within}
-use Rattle.delos_types.specs.Spaces.{SpaceMap}
-use Rattle.delos_types.specs.declared.entry.Entry.{Entry}
 use Rattle.delos_types.specs.declared.chain.Chain.{Chain}
 use Rattle.chain_map.specs.Chain.{last_of_segments}
 use Rattle.legal_journal.specs.Law.{Law}
@@ -15,7 +13,7 @@ use Rattle.legal_journal.specs.Sealing.{is_seal}
 use Rattle.legal_journal.specs.Shown.{end_of}
 use Rattle.legal_journal.specs.Journal.{CellState, State, IsLegal, reach, tail_of}
 use Rattle.fabric_core.specs.Fabric.{FabricView}
-use Rattle.replica_api.specs.Replica.{Saved}
+use Rattle.replica_api.specs.Replica.{Meaning}
 use Rattle.script_text.specs.declared.asks.NamedLine.{NamedLine}
 use Rattle.turn_scopes.specs.Alone.{AreOwn, OwnSince}
 use Rattle.turn_scopes.specs.Seats.{SeatView}
@@ -75,7 +73,7 @@ unsealing call (inr is) = ap is_seal is.1
 
 -- The nodes
 
-module _ {A : Type 0} (law : Law) (state : List Entry → SpaceMap → Type 0) (spells : List ℕ → Saved → Type 0) (lines : List NamedLine) (seat : A → SeatView) (desks : A → List Desk) (workers : List A) (from phase : ℕ) (journal more : List Event) (looks : List (Option Looked)) (h : CrewRests law state spells lines from phase journal looks seat desks workers) (over : from ≡ length lines) (own : AreOwn 0 more) (reads : AreReads more) (legal : IsLegal law (journal ++ more)) where
+module _ {A : Type 0} (law : Law) (meaning : Meaning) (lines : List NamedLine) (seat : A → SeatView) (desks : A → List Desk) (workers : List A) (from phase : ℕ) (journal more : List Event) (looks : List (Option Looked)) (h : CrewRests law meaning lines from phase journal looks seat desks workers) (over : from ≡ length lines) (own : AreOwn 0 more) (reads : AreReads more) (legal : IsLegal law (journal ++ more)) where
   abbrev then' : ℕ → NodeCourse
   then' n = and_then (h.courses n) more
 
@@ -87,13 +85,13 @@ module _ {A : Type 0} (law : Law) (state : List Entry → SpaceMap → Type 0) (
   no_node : (j : ℕ) → 0 ≡ j + 1 → ⊥
   no_node j same = absurd (omega (arith, same))
 
-  each : (j : ℕ) (w : A) → slice_get workers j ≡ Some w → Rests law state spells lines h.home (length workers) (then' (j + 1)) looks (j + 1) from phase (seat w) (desks w)
+  each : (j : ℕ) (w : A) → slice_get workers j ≡ Some w → Rests law meaning lines h.home (length workers) (then' (j + 1)) looks (j + 1) from phase (seat w) (desks w)
   each j w at =
       let inside = slice_get_within workers j w at in
       let s = h.seen (j + 1) (omega arith) (omega (arith, inside)) in
       let r = h.each j w at in
       record {
-        node = node_stays_by law state spells lines h.home (length workers) (h.courses (j + 1)) looks looks (j + 1) from from phase more (seat w) (desks w) (others_of 0 (j + 1) more (no_node j) own)
+        node = node_stays_by law meaning lines h.home (length workers) (h.courses (j + 1)) looks looks (j + 1) from from phase more (seat w) (desks w) (others_of 0 (j + 1) more (no_node j) own)
             (subst (λ l. IsLegal law (l ++ more)) (sym s.seen_is) legal) refl (λ i l get there. refl) r.node
             (λ e p there among position is. r.node.reports e p (unsaid more reads (h.courses (j + 1)).seen e there) among position is);
         none_given = r.none_given;
@@ -117,7 +115,7 @@ module _ {A : Type 0} (law : Law) (state : List Entry → SpaceMap → Type 0) (
   behind : AreBehind (journal ++ more)
   behind = behind_still law journal (journal ++ more) (more, refl) legal (unsaid more reads journal) h.behind
 
-  pub crew_read : CrewRests law state spells lines from phase (journal ++ more) looks seat desks workers
+  pub crew_read : CrewRests law meaning lines from phase (journal ++ more) looks seat desks workers
   crew_read = record {
     home = h.home;
     courses = then';

@@ -3,8 +3,6 @@ use Rattle.std.proofs.Common.{◌≡◌, ◌≢◌, refl, sym, ap, ◌∙◌, su
 use Rattle.std.specs.Prelude.{slice_set, option_map}
 use Rattle.std.proofs.lemmas.Option.{slice_get-map, slice_get_within}
 use Rattle.fabric_core.proofs.Marks.{set_other, set_same}
-use Rattle.delos_types.specs.Spaces.{SpaceMap}
-use Rattle.delos_types.specs.declared.entry.Entry.{Entry}
 use Rattle.delos_types.specs.declared.cause.Cause.{Cause}
 use Rattle.delos_types.specs.declared.cause.Cause.TheVariants as cause
 use Rattle.legal_journal.specs.Law.{Law}
@@ -13,7 +11,7 @@ use Rattle.legal_journal.specs.Journal.{IsLegal, state_of, trim_of, tail_of}
 use Rattle.journal_laws.specs.Faults.{faults_in}
 use Rattle.journal_laws.specs.Own.{faults_of}
 use Rattle.virtual_log.specs.Holding.{IsTrimmed}
-use Rattle.replica_api.specs.Replica.{Saved}
+use Rattle.replica_api.specs.Replica.{Meaning}
 use Rattle.base_engine.specs.Node.{NodeView}
 use Rattle.turn_scopes.specs.Floors.{FloorIs}
 use Rattle.script_text.specs.declared.line.Admin.TheVariants.{Retire}
@@ -43,14 +41,14 @@ use Rattle.run_closing.specs.declared.last.Calls.{Calls}
 use Rattle.run_closing.specs.declared.last.Calls.TheVariants.{OfMembers, OfAny}
 use Rattle.run_closing.specs.declared.last.Reach.{Reach}
 use Rattle.run_closing.specs.Ending.{IsCalled, IsPlayed, Fails, Finishes, PlaysOn}
-use Rattle.run_closing.specs.Finishing.{AreCalls, HasFinished, HasMost, HasNoFault, HasNoLeave, HasReached, IsMost, SeesAll, SomeSees}
+use Rattle.run_closing.specs.Finishing.{AreCalls, HasFinished, HasMost, HasNoFault, HasNoLeave, HasReached, IsMost, SeesAll, IsPlayedWhole}
 use Rattle.run_closing.proofs.Calm.{failed_one, no_causes, none_before, none_of, only_own, trim_low}
 use Rattle.run_closing.proofs.Finishing.{seen_at}
 use Rattle.run_closing.proofs.Putting.{some_at, same_some}
 
 -- A node that no line had leave
 
-module _ (law : Law) (state : List Entry → SpaceMap → Type 0) (spells : List ℕ → Saved → Type 0) (lines : List NamedLine) (home : ℕ → ℕ) (nodes : ℕ) (c : NodeCourse) (looks : List (Option Looked)) (n from done : ℕ) (seat : SeatView) (desks : List Desk) (r : Rests law state spells lines home nodes c looks n from done seat desks) (over : from ≡ length lines) (none : faults_in c.seen ≡ []) (calm : seat.node.replica.faults ≡ 0) where
+module _ (law : Law) (meaning : Meaning) (lines : List NamedLine) (home : ℕ → ℕ) (nodes : ℕ) (c : NodeCourse) (looks : List (Option Looked)) (n from done : ℕ) (seat : SeatView) (desks : List Desk) (r : Rests law meaning lines home nodes c looks n from done seat desks) (over : from ≡ length lines) (none : faults_in c.seen ≡ []) (calm : seat.node.replica.faults ≡ 0) where
   -- none of its lines failed
   failed_of_log : (P : Cause → Bool) (k : Cause) → P cause.Store ≡ false → P k ≡ true → (i : ℕ) (l : NamedLine) → Came lines looks n i l (looked.Failed k) → ⊥
   failed_of_log P k store is i l come =
@@ -125,7 +123,7 @@ module _ {A : Type 0} (seat : A → SeatView) (workers : List A) (k : ℕ) (w w'
           subst (λ y. (seat y).node.replica.faults ≡ 0) one (omega (arith, none, counts))
       by j x is (inr other) = calm.disks j x (set_other workers k j w' other ∙ is)
 
-  module _ (law : Law) (state : List Entry → SpaceMap → Type 0) (spells : List ℕ → Saved → Type 0) (run : MayRun law) (lines : List NamedLine) (desks : A → List Desk) (from phase : ℕ) (journal journal' : List Event) (looks : List (Option Looked)) (h : CrewRests law state spells lines from phase journal looks seat desks workers) (over : from ≡ length lines) (rule : FloorIs law.floor (length workers)) (since : OwnSince (k + 1) journal journal') (own_since : OwnSince (seat w).who journal journal') (adds : OwnAdds (k + 1) IsOfSessions (h.courses (k + 1)).seen journal') (rests : HasRested law state spells lines h.home (length workers) (h.courses (k + 1)) looks (k + 1) from phase journal' (seat w') (desks w')) (new : CrewRests law state spells lines from phase journal' looks seat desks (slice_set workers k w')) (forward : (seat w).node.replica.cursor ≤ (seat w').node.replica.cursor) (rises : (seat w).node.replica.faults ≤ (seat w').node.replica.faults) where
+  module _ (law : Law) (meaning : Meaning) (run : MayRun law) (lines : List NamedLine) (desks : A → List Desk) (from phase : ℕ) (journal journal' : List Event) (looks : List (Option Looked)) (h : CrewRests law meaning lines from phase journal looks seat desks workers) (over : from ≡ length lines) (rule : FloorIs law.floor (length workers)) (since : OwnSince (k + 1) journal journal') (own_since : OwnSince (seat w).who journal journal') (adds : OwnAdds (k + 1) IsOfSessions (h.courses (k + 1)).seen journal') (rests : HasRested law meaning lines h.home (length workers) (h.courses (k + 1)) looks (k + 1) from phase journal' (seat w') (desks w')) (new : CrewRests law meaning lines from phase journal' looks seat desks (slice_set workers k w')) (forward : (seat w).node.replica.cursor ≤ (seat w').node.replica.cursor) (rises : (seat w).node.replica.faults ≤ (seat w').node.replica.faults) where
     abbrev cursor : ℕ
     cursor = (seat w).node.replica.cursor
 
@@ -133,7 +131,7 @@ module _ {A : Type 0} (seat : A → SeatView) (workers : List A) (k : ℕ) (w w'
     legal = subst (IsLegal law) rests.seen_is rests.rests.node.did.legal
 
     was_seen : (h.courses (k + 1)).seen ≡ journal
-    was_seen = (seen_at law state spells lines seat desks workers from phase journal looks h k w at).seen_is
+    was_seen = (seen_at law meaning lines seat desks workers from phase journal looks h k w at).seen_is
 
     inside : k < length workers
     inside = slice_get_within workers k w at
@@ -148,7 +146,7 @@ module _ {A : Type 0} (seat : A → SeatView) (workers : List A) (k : ℕ) (w w'
     low_member : HasNoFault journal seat workers → HasNoLeave lines looks (k + 1) → trim_of (state_of journal') ≤ cursor
     low_member before stays =
         let gone = unasked_stays law run lines looks (k + 1) journal' legal (subst (AreTold lines looks (k + 1)) rests.seen_is rests.rests.node.did.told)
-        (not_asked law state spells lines h.home (length workers) (h.courses (k + 1)) looks (k + 1) from phase (seat w) (desks w) (h.each k w at) over (subst (λ l. faults_in l ≡ []) (sym was_seen) before.told) (before.disks k w at) stays) in
+        (not_asked law meaning lines h.home (length workers) (h.courses (k + 1)) looks (k + 1) from phase (seat w) (desks w) (h.each k w at) over (subst (λ l. faults_in l ≡ []) (sym was_seen) before.told) (before.disks k w at) stays) in
         trim_low law cursor journal' legal (trims_low law (length workers) rule journal' legal (k + 1) (omega arith) (omega (arith, inside)) cursor gone reports)
 
     -- nor where it had played most
@@ -181,7 +179,7 @@ module _ {A : Type 0} (seat : A → SeatView) (workers : List A) (k : ℕ) (w w'
             by y is (inr other) =
                 let there : slice_get (slice_set workers k w') (m - 1) ≡ Some y = set_other workers k (m - 1) w' other ∙ is in
                 let low : ReportsUpTo (m - 1 + 1) (seat y).node.replica.cursor journal' =
-                subst (ReportsUpTo (m - 1 + 1) (seat y).node.replica.cursor) (seen_at law state spells lines seat desks (slice_set workers k w') from phase journal' looks new (m - 1) y there).seen_is
+                subst (ReportsUpTo (m - 1 + 1) (seat y).node.replica.cursor) (seen_at law meaning lines seat desks (slice_set workers k w') from phase journal' looks new (m - 1) y there).seen_is
                 (new.each (m - 1) y there).node.reports in
                 subst (λ q. ReportsUpTo m q journal') (sym (cursor_there seat (slice_get workers (m - 1)) y is))
                 (subst (λ q. ReportsUpTo q (seat y).node.replica.cursor journal') back low)
@@ -212,13 +210,13 @@ module _ {A : Type 0} (seat : A → SeatView) (workers : List A) (k : ℕ) (w w'
 
 -- one more node made its last calls, or was passed by
 pub some_next : {A : Type 0} (lines : List NamedLine) (looks : List (Option Looked)) (journal journal' : List Event) (seat : A → SeatView) (old new : List A) (k : ℕ) (reach : Reach) → HasFinished lines looks false journal journal' seat old new k reach
-    → (reach.passed ≡ false → SeesAll journal' seat new reach.cursor) → (reach.passed ≡ true → SomeSees journal seat old) → SomeSees journal' seat new
+    → (reach.passed ≡ false → SeesAll journal' seat new reach.cursor) → (reach.passed ≡ true → IsPlayedWhole journal seat old) → IsPlayedWhole journal' seat new
 some_next {A} lines looks journal journal' seat old new k reach f plays was = by reach.passed refl f.does
   where
     at_new : slice_get new k ≡ Some f.now
     at_new = ap (λ l. slice_get l k) f.is ∙ set_same old k f.now f.was f.was_at
 
-    by : (b : Bool) → reach.passed ≡ b → Finishes f.calls (k + 1) b (node_of (seat f.was) journal) (node_of (seat f.now) journal') → SomeSees journal' seat new
+    by : (b : Bool) → reach.passed ≡ b → Finishes f.calls (k + 1) b (node_of (seat f.was) journal) (node_of (seat f.now) journal') → IsPlayedWhole journal' seat new
     by false is does = λ calm. record { at = k; one = f.now; is = at_new; upto = let low = plays is calm in let same = f.at in omega (arith, low, same) }
     by true is does = λ calm.
         let seen : journal' ≡ journal = ap (λ (n : NodeView). n.seen) does.same in
@@ -230,7 +228,7 @@ some_next {A} lines looks journal journal' seat old new k reach f plays was = by
         (subst (λ l. HasReached seat l (tail_of (state_of journal))) (sym f.is) (reached_on seat old k f.was f.now f.was_at (tail_of (state_of journal)) (omega (arith, cursor)) (was is before)))
 
 -- the node that has played most has played the whole log
-pub sees_most : {A : Type 0} (journal : List Event) (seat : A → SeatView) (workers : List A) (node cursor : ℕ) → HasMost seat workers (length workers) node cursor → SomeSees journal seat workers → SeesAll journal seat workers cursor
+pub sees_most : {A : Type 0} (journal : List Event) (seat : A → SeatView) (workers : List A) (node cursor : ℕ) → HasMost seat workers (length workers) node cursor → IsPlayedWhole journal seat workers → SeesAll journal seat workers cursor
 sees_most journal seat workers node cursor m some calm =
     let r = some calm in
     let low = m.most r.at r.one (slice_get_within workers r.at r.one r.is) r.is in

@@ -1,13 +1,11 @@
 -- The nodes of a run, whose lines are all played, and how much of the log they have played.
 use Rattle.std.specs.Prelude.{◌≡◌, ◌≢◌, ℕ, ◌+◌, ◌<◌, ◌≤◌, ◌⊎◌, Bool, true, false, List, [], length, slice_get, slice_set, Option, Some}
-use Rattle.delos_types.specs.Spaces.{SpaceMap}
-use Rattle.delos_types.specs.declared.entry.Entry.{Entry}
 use Rattle.legal_journal.specs.Law.{Law}
 use Rattle.legal_journal.specs.declared.events.Event.{Event}
 use Rattle.legal_journal.specs.Journal.{state_of, tail_of}
 use Rattle.journal_laws.specs.Faults.{faults_in}
 use Rattle.engine_steps.specs.Layout.{has_left_in}
-use Rattle.replica_api.specs.Replica.{Saved}
+use Rattle.replica_api.specs.Replica.{Meaning}
 use Rattle.script_text.specs.declared.asks.NamedLine.{NamedLine}
 use Rattle.turn_scopes.specs.Seats.{SeatView, node_of}
 use Rattle.node_lines.specs.declared.desk.Desk.{Desk}
@@ -22,8 +20,8 @@ use Rattle.run_closing.specs.declared.last.Reach.{Reach}
 use Rattle.run_closing.specs.Ending.{Finishes, PlaysOut}
 
 -- all lines were played, and each node rests
-abbrev pub HasPlayed : {A : Type 0} → Law → (List Entry → SpaceMap → Type 0) → (List ℕ → Saved → Type 0) → List NamedLine → List Event → List (Option Looked) → (A → SeatView) → (A → List Desk) → List A → Type 0
-HasPlayed {A} law state spells lines journal looks seat desks workers = (phase : ℕ) × CrewRests law state spells lines (length lines) phase journal looks seat desks workers
+abbrev pub HasPlayed : {A : Type 0} → Law → Meaning → List NamedLine → List Event → List (Option Looked) → (A → SeatView) → (A → List Desk) → List A → Type 0
+HasPlayed {A} law meaning lines journal looks seat desks workers = (phase : ℕ) × CrewRests law meaning lines (length lines) phase journal looks seat desks workers
 
 -- a line of node n came to its leaving
 abbrev pub HasLeave : List NamedLine → List (Option Looked) → ℕ → Type 0
@@ -120,8 +118,8 @@ pub record HasReached {A : Type 0} (seat : A → SeatView) (workers : List A) (e
   pub upto : end ≤ (seat one).node.replica.cursor
 
 -- where no fault came, some node has played the whole log
-abbrev pub SomeSees : {A : Type 0} → List Event → (A → SeatView) → List A → Type 0
-SomeSees journal seat workers = HasNoFault journal seat workers → HasReached seat workers (tail_of (state_of journal))
+abbrev pub IsPlayedWhole : {A : Type 0} → List Event → (A → SeatView) → List A → Type 0
+IsPlayedWhole journal seat workers = HasNoFault journal seat workers → HasReached seat workers (tail_of (state_of journal))
 
 -- where no fault came, the log ends there
 abbrev pub SeesAll : {A : Type 0} → List Event → (A → SeatView) → List A → ℕ → Type 0

@@ -38,15 +38,15 @@ pub fn close<L: Loglet, R: Register, K: Terms, S: Replica, C: Chooser>(
 ) -> Closed<L, R, K, S, C>
     requires run { MayRun K.law }
     requires floor { FloorIs K.law.floor (length crew.workers.items) }
-    requires rests { (phase : ℕ) × CrewRests K.law S.state S.spells lines.now (length lines.now) phase crew.fabric.journal crew.looks.items (λ w. w.seat) (λ w. w.desks.items) crew.workers.items }
-    ensures closed { IfOk result.answer (λ end. (log : List Entry) × (length log ≡ end) × HasClosed K.law S.state S.spells lines.now result.crew.fabric.journal result.crew.looks.items log (map (λ w. record { seat = w.seat; desks = w.desks.items }) result.crew.workers.items)) }
+    requires rests { (phase : ℕ) × CrewRests K.law S.meaning lines.now (length lines.now) phase crew.fabric.journal crew.looks.items (λ w. w.seat) (λ w. w.desks.items) crew.workers.items }
+    ensures closed { IfOk result.answer (λ end. (log : List Entry) × (length log ≡ end) × HasClosed K.law S.meaning lines.now result.crew.fabric.journal result.crew.looks.items log (map (λ w. record { seat = w.seat; desks = w.desks.items }) result.crew.workers.items)) }
 
     // The register was opened again first, where it was down.
     ensures opens { OnOk result.answer (OpensFirst crew.fabric result.crew.fabric) }
 
     // Where no fault came, the whole log was played.
     ensures sees { IfOk result.answer (SeesAll result.crew.fabric.journal (λ (w : WorkerEnd). w.seat) (map (λ w. record { seat = w.seat; desks = w.desks.items }) result.crew.workers.items)) }
-    ensures stands { CrewStands K.law S.state S.spells result.crew.fabric.journal (λ w. w.seat) result.crew.workers.items }
+    ensures stands { CrewStands K.law S.meaning result.crew.fabric.journal (λ w. w.seat) result.crew.workers.items }
     ensures size { length result.crew.workers.items ≡ length crew.workers.items }
 {
     let Finished { crew, answer } = open_register(crew, lines);

@@ -112,15 +112,15 @@ fn finish_node<L: Loglet, R: Register, K: Terms, S: Replica, C: Chooser>(
     requires run { MayRun K.law }
     requires floor { FloorIs K.law.floor (length crew.workers.items) }
     requires there { k < length crew.workers.items }
-    requires rests { HasPlayed K.law S.state S.spells lines.now crew.fabric.journal crew.looks.items (λ w. w.seat) (λ w. w.desks.items) crew.workers.items }
-    ensures rests { OnOk result.answer (HasPlayed K.law S.state S.spells lines.now result.crew.fabric.journal result.crew.looks.items (λ w. w.seat) (λ w. w.desks.items) result.crew.workers.items) }
+    requires rests { HasPlayed K.law S.meaning lines.now crew.fabric.journal crew.looks.items (λ w. w.seat) (λ w. w.desks.items) crew.workers.items }
+    ensures rests { OnOk result.answer (HasPlayed K.law S.meaning lines.now result.crew.fabric.journal result.crew.looks.items (λ w. w.seat) (λ w. w.desks.items) result.crew.workers.items) }
     ensures finishes { IfOk result.answer (HasFinished lines.now crew.looks.items last crew.fabric.journal result.crew.fabric.journal (λ w. w.seat) crew.workers.items result.crew.workers.items k) }
 
     // Where it played, and no fault came, that was the whole log.
     ensures sees { IfOk result.answer (λ reach. reach.passed ≡ false → (last ≡ true → IsMost (λ w. w.seat) crew.workers.items k) → SeesAll result.crew.fabric.journal (λ w. w.seat) result.crew.workers.items reach.cursor) }
     ensures looks { result.crew.looks.items ≡ crew.looks.items }
     ensures grows { Grows crew.fabric.journal result.crew.fabric.journal }
-    ensures stands { CrewStands K.law S.state S.spells result.crew.fabric.journal (λ w. w.seat) result.crew.workers.items }
+    ensures stands { CrewStands K.law S.meaning result.crew.fabric.journal (λ w. w.seat) result.crew.workers.items }
     ensures size { length result.crew.workers.items ≡ length crew.workers.items }
 {
     let Some(number) = NodeId::new(k as u8 + 1) else {
@@ -164,8 +164,8 @@ fn finish_each<L: Loglet, R: Register, K: Terms, S: Replica, C: Chooser>(
 ) -> Finished<L, R, K, S, C, Ends>
     requires run { MayRun K.law }
     requires floor { FloorIs K.law.floor (length crew.workers.items) }
-    requires rests { HasPlayed K.law S.state S.spells lines.now crew.fabric.journal crew.looks.items (λ w. w.seat) (λ w. w.desks.items) crew.workers.items }
-    ensures rests { OnOk result.answer (HasPlayed K.law S.state S.spells lines.now result.crew.fabric.journal result.crew.looks.items (λ w. w.seat) (λ w. w.desks.items) result.crew.workers.items) }
+    requires rests { HasPlayed K.law S.meaning lines.now crew.fabric.journal crew.looks.items (λ w. w.seat) (λ w. w.desks.items) crew.workers.items }
+    ensures rests { OnOk result.answer (HasPlayed K.law S.meaning lines.now result.crew.fabric.journal result.crew.looks.items (λ w. w.seat) (λ w. w.desks.items) result.crew.workers.items) }
     ensures most { IfOk result.answer (λ ends. HasMost (λ w. w.seat) result.crew.workers.items (length result.crew.workers.items) ends.most.node ends.most.cursor) }
 
     // Where not all were passed by, and no fault came, that is the whole log.
@@ -178,7 +178,7 @@ fn finish_each<L: Loglet, R: Register, K: Terms, S: Replica, C: Chooser>(
     ensures some { IfOk result.answer (λ ends. ends.passed ≡ false → AllLeft lines.now crew.looks.items (λ w. w.seat) crew.workers.items → ⊥) }
     ensures looks { result.crew.looks.items ≡ crew.looks.items }
     ensures grows { Grows crew.fabric.journal result.crew.fabric.journal }
-    ensures stands { CrewStands K.law S.state S.spells result.crew.fabric.journal (λ w. w.seat) result.crew.workers.items }
+    ensures stands { CrewStands K.law S.meaning result.crew.fabric.journal (λ w. w.seat) result.crew.workers.items }
     ensures size { length result.crew.workers.items ≡ length crew.workers.items }
 {
     let mut crew = crew;
@@ -214,18 +214,18 @@ fn finish_most<L: Loglet, R: Register, K: Terms, S: Replica, C: Chooser>(
 ) -> Finished<L, R, K, S, C, Most>
     requires run { MayRun K.law }
     requires floor { FloorIs K.law.floor (length crew.workers.items) }
-    requires rests { HasPlayed K.law S.state S.spells lines.now crew.fabric.journal crew.looks.items (λ w. w.seat) (λ w. w.desks.items) crew.workers.items }
+    requires rests { HasPlayed K.law S.meaning lines.now crew.fabric.journal crew.looks.items (λ w. w.seat) (λ w. w.desks.items) crew.workers.items }
     requires most { HasMost (λ w. w.seat) crew.workers.items (length crew.workers.items) ends.most.node ends.most.cursor }
     requires sees { ends.passed ≡ false → SeesAll crew.fabric.journal (λ w. w.seat) crew.workers.items ends.most.cursor }
-    requires stands { CrewStands K.law S.state S.spells crew.fabric.journal (λ w. w.seat) crew.workers.items }
-    ensures rests { OnOk result.answer (HasPlayed K.law S.state S.spells lines.now result.crew.fabric.journal result.crew.looks.items (λ w. w.seat) (λ w. w.desks.items) result.crew.workers.items) }
+    requires stands { CrewStands K.law S.meaning crew.fabric.journal (λ w. w.seat) crew.workers.items }
+    ensures rests { OnOk result.answer (HasPlayed K.law S.meaning lines.now result.crew.fabric.journal result.crew.looks.items (λ w. w.seat) (λ w. w.desks.items) result.crew.workers.items) }
     ensures most { IfOk result.answer (λ most. (most.node ≡ ends.most.node) × HasMost (λ w. w.seat) result.crew.workers.items (length result.crew.workers.items) most.node most.cursor) }
     ensures sees { IfOk result.answer (λ most. SeesAll result.crew.fabric.journal (λ w. w.seat) result.crew.workers.items most.cursor) }
     ensures passes { OnOk result.answer (PassesBut ends.most.node lines.now crew.looks.items (λ w. w.seat) crew.workers.items result.crew.workers.items) }
     ensures plays { OnOk result.answer (ends.passed ≡ true → PlaysLast ends.most.node crew.fabric.journal result.crew.fabric.journal (λ w. w.seat) crew.workers.items result.crew.workers.items) }
     ensures still { OnOk result.answer (ends.passed ≡ false → (result.crew.workers.items ≡ crew.workers.items) × (result.crew.fabric.journal ≡ crew.fabric.journal)) }
     ensures grows { Grows crew.fabric.journal result.crew.fabric.journal }
-    ensures stands { CrewStands K.law S.state S.spells result.crew.fabric.journal (λ w. w.seat) result.crew.workers.items }
+    ensures stands { CrewStands K.law S.meaning result.crew.fabric.journal (λ w. w.seat) result.crew.workers.items }
     ensures size { length result.crew.workers.items ≡ length crew.workers.items }
 {
     if !ends.passed {
@@ -262,8 +262,8 @@ pub fn finish_all<L: Loglet, R: Register, K: Terms, S: Replica, C: Chooser>(
 ) -> Finished<L, R, K, S, C, Most>
     requires run { MayRun K.law }
     requires floor { FloorIs K.law.floor (length crew.workers.items) }
-    requires rests { HasPlayed K.law S.state S.spells lines.now crew.fabric.journal crew.looks.items (λ w. w.seat) (λ w. w.desks.items) crew.workers.items }
-    ensures rests { OnOk result.answer (HasPlayed K.law S.state S.spells lines.now result.crew.fabric.journal result.crew.looks.items (λ w. w.seat) (λ w. w.desks.items) result.crew.workers.items) }
+    requires rests { HasPlayed K.law S.meaning lines.now crew.fabric.journal crew.looks.items (λ w. w.seat) (λ w. w.desks.items) crew.workers.items }
+    ensures rests { OnOk result.answer (HasPlayed K.law S.meaning lines.now result.crew.fabric.journal result.crew.looks.items (λ w. w.seat) (λ w. w.desks.items) result.crew.workers.items) }
     ensures most { IfOk result.answer (λ most. HasMost (λ w. w.seat) result.crew.workers.items (length result.crew.workers.items) most.node most.cursor) }
     ensures sees { IfOk result.answer (λ most. SeesAll result.crew.fabric.journal (λ w. w.seat) result.crew.workers.items most.cursor) }
 
@@ -276,7 +276,7 @@ pub fn finish_all<L: Loglet, R: Register, K: Terms, S: Replica, C: Chooser>(
     ensures greatest { IfOk result.answer (λ most. AllLeft lines.now crew.looks.items (λ w. w.seat) crew.workers.items → IsMost (λ w. w.seat) crew.workers.items most.node) }
     ensures last { IfOk result.answer (λ most. AllLeft lines.now crew.looks.items (λ w. w.seat) crew.workers.items → PlaysLast most.node crew.fabric.journal result.crew.fabric.journal (λ w. w.seat) crew.workers.items result.crew.workers.items) }
     ensures grows { Grows crew.fabric.journal result.crew.fabric.journal }
-    ensures stands { CrewStands K.law S.state S.spells result.crew.fabric.journal (λ w. w.seat) result.crew.workers.items }
+    ensures stands { CrewStands K.law S.meaning result.crew.fabric.journal (λ w. w.seat) result.crew.workers.items }
     ensures size { length result.crew.workers.items ≡ length crew.workers.items }
 {
     let Finished { crew, answer } = finish_each(crew, lines);

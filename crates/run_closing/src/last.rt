@@ -57,7 +57,7 @@ fn play_out<T: Turns, C: Chooser, R: Replica>(
     requires floor { (log : List Entry) (n : ℕ) → T.Law.law.floor log n → n ≤ length log }
     ensures moves { OnOk result (Moves T.Law.law node.old node.new []) }
     ensures plays { OnOk result (PlaysOut node.old node.new) }
-    ensures follows { OnOk result (Follows Holds R.state R.spells node.new.seen node.new.replica) }
+    ensures follows { OnOk result (Follows Holds R.meaning node.new.seen node.new.replica) }
     ensures outbox { OnOk result (node.new.outbox ≡ node.old.outbox) }
     ensures kept { OnOk result (node.new.replica.kept ≡ node.old.replica.kept) }
     ensures cursor { IfOk result (λ n. n ≡ node.new.replica.cursor) }
@@ -103,7 +103,7 @@ pub fn finish<T: Turns, C: Chooser, R: Replica>(
     requires floor { (log : List Entry) (n : ℕ) → T.Law.law.floor log n → n ≤ length log }
     ensures moves { OnOk result (Moves T.Law.law node.old node.new []) }
     ensures plays { IfOk result (λ reach. Finishes calls number reach.passed node.old node.new) }
-    ensures follows { OnOk result (Follows Holds R.state R.spells node.new.seen node.new.replica) }
+    ensures follows { OnOk result (Follows Holds R.meaning node.new.seen node.new.replica) }
     ensures outbox { OnOk result (node.new.outbox ≡ node.old.outbox) }
     ensures kept { OnOk result (node.new.replica.kept ≡ node.old.replica.kept) }
     ensures cursor { IfOk result (λ reach. reach.cursor ≡ node.new.replica.cursor) }

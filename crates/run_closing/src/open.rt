@@ -25,10 +25,10 @@ pub fn open_register<L: Loglet, R: Register, K: Terms, S: Replica, C: Chooser>(
     crew: Crew<L, R, K, S, C>,
     _lines: &[NamedLine],
 ) -> Finished<L, R, K, S, C, ()>
-    requires rests { HasPlayed K.law S.state S.spells _lines.now crew.fabric.journal crew.looks.items (λ w. w.seat) (λ w. w.desks.items) crew.workers.items }
-    ensures rests { OnOk result.answer (HasPlayed K.law S.state S.spells _lines.now result.crew.fabric.journal result.crew.looks.items (λ w. w.seat) (λ w. w.desks.items) result.crew.workers.items) }
+    requires rests { HasPlayed K.law S.meaning _lines.now crew.fabric.journal crew.looks.items (λ w. w.seat) (λ w. w.desks.items) crew.workers.items }
+    ensures rests { OnOk result.answer (HasPlayed K.law S.meaning _lines.now result.crew.fabric.journal result.crew.looks.items (λ w. w.seat) (λ w. w.desks.items) result.crew.workers.items) }
     ensures opens { OnOk result.answer (OpensOnce crew.fabric result.crew.fabric) }
-    ensures stands { CrewStands K.law S.state S.spells result.crew.fabric.journal (λ w. w.seat) result.crew.workers.items }
+    ensures stands { CrewStands K.law S.meaning result.crew.fabric.journal (λ w. w.seat) result.crew.workers.items }
     ensures size { length result.crew.workers.items ≡ length crew.workers.items }
 {
     let Crew {

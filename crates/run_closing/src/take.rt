@@ -24,10 +24,10 @@ fn take_own<L: Loglet, R: Register, K: Terms, S: Replica, C: Chooser>(
     _lines: &[NamedLine],
 ) -> Finished<L, R, K, S, C, ()>
     requires run { MayRun K.law }
-    requires takes { CrewTakes K.law S.state S.spells _lines.now most.node most.cursor most.node crew.fabric.journal crew.looks.items (λ w. w.seat) (λ w. w.desks.items) crew.workers.items }
-    ensures takes { OnOk result.answer (CrewTakes K.law S.state S.spells _lines.now most.node most.cursor (most.node + 1) result.crew.fabric.journal result.crew.looks.items (λ w. w.seat) (λ w. w.desks.items) result.crew.workers.items) }
+    requires takes { CrewTakes K.law S.meaning _lines.now most.node most.cursor most.node crew.fabric.journal crew.looks.items (λ w. w.seat) (λ w. w.desks.items) crew.workers.items }
+    ensures takes { OnOk result.answer (CrewTakes K.law S.meaning _lines.now most.node most.cursor (most.node + 1) result.crew.fabric.journal result.crew.looks.items (λ w. w.seat) (λ w. w.desks.items) result.crew.workers.items) }
     ensures journal { result.crew.fabric.journal ≡ crew.fabric.journal }
-    ensures stands { CrewStands K.law S.state S.spells result.crew.fabric.journal (λ w. w.seat) result.crew.workers.items }
+    ensures stands { CrewStands K.law S.meaning result.crew.fabric.journal (λ w. w.seat) result.crew.workers.items }
     ensures size { length result.crew.workers.items ≡ length crew.workers.items }
 {
     let Crew {
@@ -83,10 +83,10 @@ fn take_other<L: Loglet, R: Register, K: Terms, S: Replica, C: Chooser>(
     requires run { MayRun K.law }
     requires there { k < length crew.workers.items }
     requires other { most.node ≢ k }
-    requires takes { CrewTakes K.law S.state S.spells _lines.now most.node most.cursor k crew.fabric.journal crew.looks.items (λ w. w.seat) (λ w. w.desks.items) crew.workers.items }
-    ensures takes { OnOk result.answer (CrewTakes K.law S.state S.spells _lines.now most.node most.cursor (k + 1) result.crew.fabric.journal result.crew.looks.items (λ w. w.seat) (λ w. w.desks.items) result.crew.workers.items) }
+    requires takes { CrewTakes K.law S.meaning _lines.now most.node most.cursor k crew.fabric.journal crew.looks.items (λ w. w.seat) (λ w. w.desks.items) crew.workers.items }
+    ensures takes { OnOk result.answer (CrewTakes K.law S.meaning _lines.now most.node most.cursor (k + 1) result.crew.fabric.journal result.crew.looks.items (λ w. w.seat) (λ w. w.desks.items) result.crew.workers.items) }
     ensures journal { result.crew.fabric.journal ≡ crew.fabric.journal }
-    ensures stands { CrewStands K.law S.state S.spells result.crew.fabric.journal (λ w. w.seat) result.crew.workers.items }
+    ensures stands { CrewStands K.law S.meaning result.crew.fabric.journal (λ w. w.seat) result.crew.workers.items }
     ensures size { length result.crew.workers.items ≡ length crew.workers.items }
 {
     let Crew {
@@ -144,10 +144,10 @@ fn take_node<L: Loglet, R: Register, K: Terms, S: Replica, C: Chooser>(
 ) -> Finished<L, R, K, S, C, ()>
     requires run { MayRun K.law }
     requires there { k < length crew.workers.items }
-    requires takes { CrewTakes K.law S.state S.spells lines.now most.node most.cursor k crew.fabric.journal crew.looks.items (λ w. w.seat) (λ w. w.desks.items) crew.workers.items }
-    ensures takes { OnOk result.answer (CrewTakes K.law S.state S.spells lines.now most.node most.cursor (k + 1) result.crew.fabric.journal result.crew.looks.items (λ w. w.seat) (λ w. w.desks.items) result.crew.workers.items) }
+    requires takes { CrewTakes K.law S.meaning lines.now most.node most.cursor k crew.fabric.journal crew.looks.items (λ w. w.seat) (λ w. w.desks.items) crew.workers.items }
+    ensures takes { OnOk result.answer (CrewTakes K.law S.meaning lines.now most.node most.cursor (k + 1) result.crew.fabric.journal result.crew.looks.items (λ w. w.seat) (λ w. w.desks.items) result.crew.workers.items) }
     ensures journal { result.crew.fabric.journal ≡ crew.fabric.journal }
-    ensures stands { CrewStands K.law S.state S.spells result.crew.fabric.journal (λ w. w.seat) result.crew.workers.items }
+    ensures stands { CrewStands K.law S.meaning result.crew.fabric.journal (λ w. w.seat) result.crew.workers.items }
     ensures size { length result.crew.workers.items ≡ length crew.workers.items }
 {
     if most.node == k {
@@ -163,10 +163,10 @@ pub fn take_all_nodes<L: Loglet, R: Register, K: Terms, S: Replica, C: Chooser>(
     lines: &[NamedLine],
 ) -> Finished<L, R, K, S, C, ()>
     requires run { MayRun K.law }
-    requires takes { CrewTakes K.law S.state S.spells lines.now most.node most.cursor 0 crew.fabric.journal crew.looks.items (λ w. w.seat) (λ w. w.desks.items) crew.workers.items }
-    ensures takes { OnOk result.answer (CrewTakes K.law S.state S.spells lines.now most.node most.cursor (length result.crew.workers.items) result.crew.fabric.journal result.crew.looks.items (λ w. w.seat) (λ w. w.desks.items) result.crew.workers.items) }
+    requires takes { CrewTakes K.law S.meaning lines.now most.node most.cursor 0 crew.fabric.journal crew.looks.items (λ w. w.seat) (λ w. w.desks.items) crew.workers.items }
+    ensures takes { OnOk result.answer (CrewTakes K.law S.meaning lines.now most.node most.cursor (length result.crew.workers.items) result.crew.fabric.journal result.crew.looks.items (λ w. w.seat) (λ w. w.desks.items) result.crew.workers.items) }
     ensures journal { result.crew.fabric.journal ≡ crew.fabric.journal }
-    ensures stands { CrewStands K.law S.state S.spells result.crew.fabric.journal (λ w. w.seat) result.crew.workers.items }
+    ensures stands { CrewStands K.law S.meaning result.crew.fabric.journal (λ w. w.seat) result.crew.workers.items }
     ensures size { length result.crew.workers.items ≡ length crew.workers.items }
 {
     let mut crew = crew;

@@ -33,13 +33,13 @@ fn finish_within<A: Access, Q: Scope, S: Replica, C: Chooser>(
     requires floor { (log : List Entry) (n : ℕ) → Q.law.floor log n → n ≤ length log }
     requires who { worker.seat.who ≡ A.who access }
     requires narrows { Narrows Q.law A.Law.law (A.beside (A.who access)) }
-    requires seat { SeatOk Q.law S.state S.spells (A.seen access) worker.seat }
+    requires seat { SeatOk Q.law S.meaning (A.seen access) worker.seat }
     requires whose { Q.who ≡ A.who access }
     requires since { Q.since ≡ A.seen access }
     ensures desks { result.part.desks ≡ worker.desks }
     ensures who { A.who result.access ≡ A.who access }
     ensures sits { result.part.seat.who ≡ A.who result.access }
-    ensures seat { SeatOk Q.law S.state S.spells (A.seen result.access) result.part.seat }
+    ensures seat { SeatOk Q.law S.meaning (A.seen result.access) result.part.seat }
     ensures since { Since result.part.seat.who (A.beside result.part.seat.who) (A.seen access) (A.seen result.access) }
     ensures right { SealsByRight (Q.seals result.part.seat.who) result.part.seat.who (A.seen access) (A.seen result.access) }
     ensures moves { OnOk result.answer (Moves Q.law (node_of worker.seat (A.seen access)) (node_of result.part.seat (A.seen result.access)) []) }
@@ -71,11 +71,11 @@ pub fn finish_worker<A: Access, S: Replica, C: Chooser>(
     requires run { MayRun A.Law.law }
     requires who { worker.seat.who ≡ A.who access }
     requires alone { IsAlone (A.beside (A.who access)) }
-    requires worker { WorkerOk A.Law.law S.state S.spells worker.seat.who (A.seen access) worker.seat worker.desks.items }
+    requires worker { WorkerOk A.Law.law S.meaning worker.seat.who (A.seen access) worker.seat worker.desks.items }
     ensures desks { result.part.desks ≡ worker.desks }
     ensures who { A.who result.access ≡ A.who access }
-    ensures left { IsLeft A.Law.law S.state S.spells A.beside ⊥ (A.seen access) worker.seat (A.seen result.access) result.part.seat }
-    ensures worker { OnOk result.answer (WorkerOk A.Law.law S.state S.spells worker.seat.who (A.seen result.access) result.part.seat result.part.desks.items) }
+    ensures left { IsLeft A.Law.law S.meaning A.beside ⊥ (A.seen access) worker.seat (A.seen result.access) result.part.seat }
+    ensures worker { OnOk result.answer (WorkerOk A.Law.law S.meaning worker.seat.who (A.seen result.access) result.part.seat result.part.desks.items) }
     ensures moves { OnOk result.answer (Moves (record A.Law.law { may = OwnWithin worker.seat.who A.Law.law.may (sent_by worker.desks.items) }) (node_of worker.seat (A.seen access)) (node_of result.part.seat (A.seen result.access)) []) }
     ensures plays { IfOk result.answer (λ reach. Finishes calls number reach.passed (node_of worker.seat (A.seen access)) (node_of result.part.seat (A.seen result.access))) }
     ensures outbox { OnOk result.answer (result.part.seat.node.outbox ≡ worker.seat.node.outbox) }
@@ -93,12 +93,12 @@ fn take_within<A: Access, Q: Scope, S: Replica, C: Chooser>(
 ) -> Back<A, Seat<S, C>, ()>
     requires who { seat.who ≡ A.who access }
     requires narrows { Narrows Q.law A.Law.law (A.beside (A.who access)) }
-    requires seat { SeatOk Q.law S.state S.spells (A.seen access) seat }
+    requires seat { SeatOk Q.law S.meaning (A.seen access) seat }
     requires whose { Q.who ≡ A.who access }
     requires since { Q.since ≡ A.seen access }
     requires desks { CanTakeAll Q.law.may (node_of seat (A.seen access)) desks.old.items }
     ensures node { node_of result.part (A.seen result.access) ≡ node_of seat (A.seen access) }
-    ensures seat { SeatOk Q.law S.state S.spells (A.seen result.access) result.part }
+    ensures seat { SeatOk Q.law S.meaning (A.seen result.access) result.part }
     ensures takes { OnOk result.answer (TakesAll (node_of seat (A.seen access)) desks.old.items desks.new.items) }
 {
     let node = seat.wake::<A, Q>(access);
@@ -120,10 +120,10 @@ pub fn take_answers<A: Access, S: Replica, C: Chooser>(
 ) -> Back<A, Seat<S, C>, ()>
     requires who { seat.who ≡ A.who access }
     requires alone { IsAlone (A.beside (A.who access)) }
-    requires seat { SeatOk (record A.Law.law { may = WithinDesks A.Law.law.may desks.old.items }) S.state S.spells (A.seen access) seat }
+    requires seat { SeatOk (record A.Law.law { may = WithinDesks A.Law.law.may desks.old.items }) S.meaning (A.seen access) seat }
     requires desks { CanTakeAll (WithinDesks A.Law.law.may desks.old.items) (node_of seat (A.seen access)) desks.old.items }
     ensures node { node_of result.part (A.seen result.access) ≡ node_of seat (A.seen access) }
-    ensures seat { SeatOk (record A.Law.law { may = WithinDesks A.Law.law.may desks.old.items }) S.state S.spells (A.seen result.access) result.part }
+    ensures seat { SeatOk (record A.Law.law { may = WithinDesks A.Law.law.may desks.old.items }) S.meaning (A.seen result.access) result.part }
     ensures takes { OnOk result.answer (TakesAll (node_of seat (A.seen access)) desks.old.items desks.new.items) }
 {
     take_within::<A, Brand, S, C>(access, seat, desks)

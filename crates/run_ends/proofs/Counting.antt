@@ -4,7 +4,6 @@ use Rattle.std.specs.List.{AllByRecursion}
 use Rattle.std.proofs.lemmas.Bool.{and_from, and_parts, both_ways, cases_lt, false_from_ne_true, or_left, or_right}
 use Rattle.std.proofs.lemmas.Option.{slice_get_within, slice_get_cases}
 use Rattle.std.proofs.lemmas.List.{length-map}
-use Rattle.delos_types.specs.Spaces.{SpaceMap}
 use Rattle.delos_types.specs.declared.entry.Entry.{Entry}
 use Rattle.delos_types.specs.declared.cause.Cause.{Cause}
 use Rattle.delos_types.specs.declared.cause.Cause.TheVariants as cause
@@ -15,7 +14,7 @@ use Rattle.legal_journal.specs.Law.{Law}
 use Rattle.legal_journal.specs.declared.events.Event.{Event}
 use Rattle.legal_journal.specs.Journal.{IsLegal}
 use Rattle.fabric_core.specs.Runs.{HasRun, HasRegisterRun}
-use Rattle.replica_api.specs.Replica.{Saved}
+use Rattle.replica_api.specs.Replica.{Meaning}
 use Rattle.log_laws.proofs.Pairs.{all-imply}
 use Rattle.journal_laws.specs.Faults.{faults_in, is_lack_of, is_full_of, is_meta}
 use Rattle.script_text.specs.declared.asks.NamedLine.{NamedLine}
@@ -169,7 +168,7 @@ full_from : (v : LogletView) → (size_of v ≡ v.room) ⊎ (v.begun ≡ v.limit
 full_from v (inl room) = or_left (size_of v == v.room) (v.begun == v.limit) (eq-eqb (size_of v) v.room room)
 full_from v (inr limit) = or_right (size_of v == v.room) (v.begun == v.limit) (eq-eqb v.begun v.limit limit)
 
-module _ (law : Law) (told : AreCounted law) (state : List Entry → SpaceMap → Type 0) (spells : List ℕ → Saved → Type 0) (lines : List NamedLine) (rows : List Row) (journal : List Event) (looks : List (Option Looked)) (log : List Entry) (workers : List WorkerEnd) (chain : Chain) (yard : Shown) (h : HasClosed law state spells lines journal looks log workers) (back : IsGivenBack law journal workers chain yard) where
+module _ (law : Law) (told : AreCounted law) (meaning : Meaning) (lines : List NamedLine) (rows : List Row) (journal : List Event) (looks : List (Option Looked)) (log : List Entry) (workers : List WorkerEnd) (chain : Chain) (yard : Shown) (h : HasClosed law meaning lines journal looks log workers) (back : IsGivenBack law journal workers chain yard) where
   abbrev played : List Played
   played = played_of lines rows looks
 

@@ -4,7 +4,6 @@ use Rattle.std.specs.List.{AllByRecursion}
 use Rattle.std.proofs.lemmas.Bool.{and_from}
 use Rattle.std.proofs.lemmas.List.{length-map, length-take}
 use Rattle.std.proofs.lemmas.Option.{slice_get_within}
-use Rattle.delos_types.specs.Spaces.{SpaceMap}
 use Rattle.delos_types.specs.declared.entry.Entry.{Entry}
 use Rattle.delos_types.specs.declared.chain.Chain.{Chain}
 use Rattle.legal_journal.specs.Law.{Law}
@@ -17,7 +16,7 @@ use Rattle.engine_api.specs.declared.content.Content.{Content}
 use Rattle.engine_api.specs.declared.content.Content.TheVariants as content
 use Rattle.engine_api.specs.Acted.{Asked, asked_in}
 use Rattle.engine_api.specs.Order.{first_of, is_clean}
-use Rattle.replica_api.specs.Replica.{Saved}
+use Rattle.replica_api.specs.Replica.{Meaning}
 use Rattle.turn_scopes.specs.Floors.{FloorIs}
 use Rattle.script_text.specs.declared.line.Admin.TheVariants.{Extend, Alive, Trim, Retire}
 use Rattle.script_text.specs.declared.asks.NamedLine.{NamedLine}
@@ -85,18 +84,18 @@ after_at P before [] j x h at = absurd (cc)
 after_at P before (y ∷ ys) zero x h at = let same : y ≡ x = cc in (before, subst (P before) same h.0)
 after_at P before (y ∷ ys) (suc j) x h at = after_at P (before ++ y ∷ []) ys j x h.1 at
 
-module _ (law : Law) (state : List Entry → SpaceMap → Type 0) (spells : List ℕ → Saved → Type 0) (run : MayRun law) (lines : List NamedLine) (journal : List Event) (looks : List (Option Looked)) (log : List Entry) (workers : List WorkerEnd) (o : Told) (yard : Shown) (mine : (who : ℕ) (e : Entry) → law.may who e → may_of lines who e) (floor_is : FloorIs law.floor (length workers)) (h : HasClosed law state spells lines journal looks log workers) (are : AreRows lines workers looks o.rows) (end_is : o.end ≡ length log) (back : IsGivenBack law journal workers o.chain yard) (told : IsRegisterAsTold (state_of journal).register yard.register) (registered : ChainIsRegistered o yard.register) where
+module _ (law : Law) (meaning : Meaning) (run : MayRun law) (lines : List NamedLine) (journal : List Event) (looks : List (Option Looked)) (log : List Entry) (workers : List WorkerEnd) (o : Told) (yard : Shown) (mine : (who : ℕ) (e : Entry) → law.may who e → may_of lines who e) (floor_is : FloorIs law.floor (length workers)) (h : HasClosed law meaning lines journal looks log workers) (are : AreRows lines workers looks o.rows) (end_is : o.end ≡ length log) (back : IsGivenBack law journal workers o.chain yard) (told : IsRegisterAsTold (state_of journal).register yard.register) (registered : ChainIsRegistered o yard.register) where
   abbrev played : List Played
   played = played_of lines o.rows looks
 
   size : length looks ≡ length lines
-  size = looks_size law state spells lines journal looks log workers h
+  size = looks_size law meaning lines journal looks log workers h
 
   some : 1 ≤ length workers
-  some = some_node law state spells lines journal looks log workers h
+  some = some_node law meaning lines journal looks log workers h
 
   legal_then : IsLegal law h.run.seen
-  legal_then = run_is_legal law state spells lines journal looks log workers h
+  legal_then = run_is_legal law meaning lines journal looks log workers h
 
   -- of a session its home alone appends commands
   own : (s : ℕ) → IsHome law.may s (h.home s)
@@ -127,7 +126,7 @@ module _ (law : Law) (state : List Entry → SpaceMap → Type 0) (spells : List
       let within = slice_get_within (take n log) there.0 there.1 there.2 in
       let size = length-take n log in
       let before : k.line.phase < phase =
-      early_line law state spells run lines journal looks log workers h k.at k.line x.session phase there.0 there.1 (own x.session) k.is logs.0 (first_is n there.0 there.1 there.2)
+      early_line law meaning run lines journal looks log workers h k.at k.line x.session phase there.0 there.1 (own x.session) k.is logs.0 (first_is n there.0 there.1 there.2)
       (subst (λ r. HasRank x.session r there.1) (sym logs.1) there.3) (omega (arith, within, size)) in
       record {
         at = k.at;
@@ -172,7 +171,7 @@ module _ (law : Law) (state : List Entry → SpaceMap → Type 0) (spells : List
       let k = turn_is lines o.rows looks i t at in
       let row = are.each i k.line k.look k.row k.line_at k.look_at k.row_at in
       let retired = retired_is (desk_for workers k.line.node k.line.asks) k.look k.line.asks k.row.outcome row.tells (sym (ap (λ (y : Played). y.row.outcome) k.is) ∙ is) in
-      let r = leave_played law state spells run lines journal looks log workers h i k.line k.line_at Retire retired.0 (k.look_at ∙ ap Some retired.1) in
+      let r = leave_played law meaning run lines journal looks log workers h i k.line k.line_at Retire retired.0 (k.look_at ∙ ap Some retired.1) in
       subst (λ n. SaysFrom o.chain yard.cells 0 (content.Leave n)) (sym (ap (λ (y : Played). y.line.node) k.is)) (stood (content.Leave k.line.node) 0 r.stands (omega (arith, none)) (omega arith))
 
   -- and that a trim was asked for
@@ -282,7 +281,7 @@ module _ (law : Law) (state : List Entry → SpaceMap → Type 0) (spells : List
           (let same = ap (λ (k : Chain). k.trim) back.chain_is in
           let low = short in
           stands below (omega (arith, same, low))
-          (subst (λ n. is_clean (λ s. 1) (asked_in 0 (take n log)) ≡ true) same (clean_below law state spells run lines journal looks log workers o yard mine floor_is h are back short)));
+          (subst (λ n. is_clean (λ s. 1) (asked_in 0 (take n log)) ≡ true) same (clean_below law meaning run lines journal looks log workers o yard mine floor_is h are back short)));
       sent = sent;
       early = early;
       lines = lines_ended;
@@ -291,7 +290,7 @@ module _ (law : Law) (state : List Entry → SpaceMap → Type 0) (spells : List
       reported = reported;
       left = left;
       above = above;
-      trims = trims_ended law state spells run lines journal looks log workers o yard mine floor_is h are back let_go back.nodes (let low = short in omega (arith, low, end_is)) asked;
+      trims = trims_ended law meaning run lines journal looks log workers o yard mine floor_is h are back let_go back.nodes (let low = short in omega (arith, low, end_is)) asked;
       came = came;
       registered = registered;
     }

@@ -1,7 +1,6 @@
 -- A run whose nodes have closed stays closed as its chain is read.
 use Rattle.std.proofs.Common.{◌≡◌, refl, sym, ap, ◌∙◌, subst, ◌⊎◌, inl, inr, ⊎_elim, ℕ, zero, suc, ◌+◌, ◌-◌, ◌≤◌, Contains, true, false, List, [], ◌∷◌, ◌++◌, Option, Some, None, length, arith}
 use Rattle.std.proofs.lemmas.Option.{slice_get_within}
-use Rattle.delos_types.specs.Spaces.{SpaceMap}
 use Rattle.delos_types.specs.declared.entry.Entry.{Entry}
 use Rattle.legal_journal.specs.Law.{Law}
 use Rattle.legal_journal.specs.declared.events.Event.{Event}
@@ -20,7 +19,7 @@ use Rattle.journal_laws.proofs.Changes.{adds_none}
 use Rattle.base_engine.specs.Holding.{held_stays}
 use Rattle.engine_api.specs.declared.content.Content.{Content}
 use Rattle.engine_api.specs.declared.content.Content.TheVariants as content
-use Rattle.replica_api.specs.Replica.{Saved}
+use Rattle.replica_api.specs.Replica.{Meaning}
 use Rattle.script_text.specs.declared.asks.NamedLine.{NamedLine}
 use Rattle.turn_scopes.specs.Alone.{AreOwn}
 use Rattle.node_lines.specs.declared.lines.Looked.{Looked}
@@ -147,7 +146,7 @@ faults_stay : (courses : ℕ → NodeCourse) (more : List Event) (n : ℕ) → f
 faults_stay courses more zero = refl
 faults_stay courses more (suc n) = ap (λ fs. fs ++ (courses (suc n)).faults) (faults_stay courses more n)
 
-module _ (law : Law) (state : List Entry → SpaceMap → Type 0) (spells : List ℕ → Saved → Type 0) (lines : List NamedLine) (journal more : List Event) (looks : List (Option Looked)) (log : List Entry) (workers : List WorkerEnd) (h : HasClosed law state spells lines journal looks log workers) (own : AreOwn 0 more) (reads : AreReads more) (legal : IsLegal law (journal ++ more)) where
+module _ (law : Law) (meaning : Meaning) (lines : List NamedLine) (journal more : List Event) (looks : List (Option Looked)) (log : List Entry) (workers : List WorkerEnd) (h : HasClosed law meaning lines journal looks log workers) (own : AreOwn 0 more) (reads : AreReads more) (legal : IsLegal law (journal ++ more)) where
   abbrev then' : NodeCourse
   then' = and_then h.run more
 
@@ -155,22 +154,22 @@ module _ (law : Law) (state : List Entry → SpaceMap → Type 0) (spells : List
   courses n = and_then (h.courses n) more
 
   -- a node stays as it was
-  module _ (n : ℕ) (w : WorkerEnd) (k : WorkerClosed law state spells lines h.home (length workers) (h.courses n) looks log n w) (least : 1 ≤ n) (most : n ≤ length workers) where
-    stays : NodeAt law state spells lines h.home (length workers) (courses n) looks n (length lines) (length lines) (h.courses n).phase w.seat k.was
+  module _ (n : ℕ) (w : WorkerEnd) (k : WorkerClosed law meaning lines h.home (length workers) (h.courses n) looks log n w) (least : 1 ≤ n) (most : n ≤ length workers) where
+    stays : NodeAt law meaning lines h.home (length workers) (courses n) looks n (length lines) (length lines) (h.courses n).phase w.seat k.was
     stays =
         let seen = (h.joined.part n least most).seen ∙ h.seen_is in
-        node_stays_by law state spells lines h.home (length workers) (h.courses n) looks looks n (length lines) (length lines) (h.courses n).phase more w.seat k.was (none_own n more least own)
+        node_stays_by law meaning lines h.home (length workers) (h.courses n) looks looks n (length lines) (length lines) (h.courses n).phase more w.seat k.was (none_own n more least own)
         (subst (λ j. IsLegal law (j ++ more)) (sym seen) legal) refl (λ i l at here. refl) k.rests.node
         (λ e p there among position is. k.rests.node.reports e p (unsaid more reads (h.courses n).seen e there) among position is)
 
-    closed : WorkerClosed law state spells lines h.home (length workers) (courses n) looks log n w
+    closed : WorkerClosed law meaning lines h.home (length workers) (courses n) looks log n w
     closed = record { was = k.was; rests = record { node = stays; none_given = k.rests.none_given }; short = k.short; size = k.size; each = k.each }
 
   did : (n : ℕ) → 1 ≤ n → n ≤ length workers → CourseOk law lines (length workers) n (courses n) looks
   did n least most =
       let w = some_at workers (n - 1) (omega (arith, least, most)) in
       let same : n - 1 + 1 ≡ n = omega (arith, least) in
-      let k = subst (λ m. WorkerClosed law state spells lines h.home (length workers) (h.courses m) looks log m w.0) same (h.each (n - 1) w.0 w.1) in
+      let k = subst (λ m. WorkerClosed law meaning lines h.home (length workers) (h.courses m) looks log m w.0) same (h.each (n - 1) w.0 w.1) in
       (stays n w.0 k least most).did
 
   seals : (e : Event) → Contains (journal ++ more) e → begins_seal e ≡ true → (1 ≤ e.who) × (e.who ≤ length workers)
@@ -179,7 +178,7 @@ module _ (law : Law) (state : List Entry → SpaceMap → Type 0) (spells : List
       (λ (now : Among more e). absurd (both_ways false refl (sym (reads_seal_none more e reads now) ∙ is)))
       (among_split journal more e (contained-among (journal ++ more) e has))
 
-  pub closed_on : HasClosed law state spells lines (journal ++ more) looks log workers
+  pub closed_on : HasClosed law meaning lines (journal ++ more) looks log workers
   closed_on = record {
     home = h.home;
     run = then';

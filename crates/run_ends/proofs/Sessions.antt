@@ -1,12 +1,11 @@
 -- How the sessions stand once their nodes have closed.
 use Rattle.std.proofs.Common.{◌≡◌, refl, sym, ap, ◌∙◌, subst, ℕ, ◌+◌, ◌-◌, ◌<◌, ◌≤◌, List, Option, Some, None, IsSome, length, slice_get, arith}
-use Rattle.delos_types.specs.Spaces.{SpaceMap}
 use Rattle.delos_types.specs.declared.entry.Entry.{Entry}
 use Rattle.delos_types.specs.declared.cause.Cause.{Cause}
 use Rattle.legal_journal.specs.Law.{Law}
 use Rattle.legal_journal.specs.declared.events.Event.{Event}
 use Rattle.legal_journal.specs.Journal.{IsLegal}
-use Rattle.replica_api.specs.Replica.{Saved}
+use Rattle.replica_api.specs.Replica.{Meaning}
 use Rattle.script_text.specs.declared.asks.NamedLine.{NamedLine}
 use Rattle.row_text.specs.declared.row.Row.{Row}
 use Rattle.node_lines.specs.declared.desk.Desk.{Desk}
@@ -24,7 +23,7 @@ use Rattle.run_ends.specs.Rows.{AreRows, played_of}
 use Rattle.run_ends.specs.Ends.{answered_of, desk_in, end_at, end_of}
 use Rattle.run_ends.proofs.Turns.{lines_are, some_at, turn_of}
 
-module _ (law : Law) (state : List Entry → SpaceMap → Type 0) (spells : List ℕ → Saved → Type 0) (lines : List NamedLine) (journal : List Event) (looks : List (Option Looked)) (log : List Entry) (workers : List WorkerEnd) (h : HasClosed law state spells lines journal looks log workers) where
+module _ (law : Law) (meaning : Meaning) (lines : List NamedLine) (journal : List Event) (looks : List (Option Looked)) (log : List Entry) (workers : List WorkerEnd) (h : HasClosed law meaning lines journal looks log workers) where
   -- there is a node
   pub some : 1 ≤ length workers
   some = let least = h.lines_are.there 0 in let most = h.lines_are.within 0 in omega (arith, least, most)
@@ -37,10 +36,10 @@ module _ (law : Law) (state : List Entry → SpaceMap → Type 0) (spells : List
   legal = run_legal law lines h.home (length workers) h.run looks h.courses h.joined some
 
   -- a node once it has closed, when the run's phases are over
-  pub ended_at : (n : ℕ) (w : WorkerEnd) (k : WorkerClosed law state spells lines h.home (length workers) (h.courses n) looks log n w) → 1 ≤ n → n ≤ length workers
-      → NodeAt law state spells lines h.home (length workers) (h.courses n) looks n (length lines) (length lines) h.run.phase w.seat k.was
+  pub ended_at : (n : ℕ) (w : WorkerEnd) (k : WorkerClosed law meaning lines h.home (length workers) (h.courses n) looks log n w) → 1 ≤ n → n ≤ length workers
+      → NodeAt law meaning lines h.home (length workers) (h.courses n) looks n (length lines) (length lines) h.run.phase w.seat k.was
   ended_at n w k least most =
-      subst (λ done. NodeAt law state spells lines h.home (length workers) (h.courses n) looks n (length lines) (length lines) done w.seat k.was) (h.joined.part n least most).phase k.rests.node
+      subst (λ done. NodeAt law meaning lines h.home (length workers) (h.courses n) looks n (length lines) (length lines) done w.seat k.was) (h.joined.part n least most).phase k.rests.node
 
   -- the end of a session that was so stopped, or not
   abbrev pub ends_so : ℕ → Desk → SessionEnd
@@ -53,7 +52,7 @@ module _ (law : Law) (state : List Entry → SpaceMap → Type 0) (spells : List
   pub record AtHome (s : ℕ) : Type 0 where
     pub worker : WorkerEnd
     pub at : slice_get workers (h.home s - 1) ≡ Some worker
-    pub closed : WorkerClosed law state spells lines h.home (length workers) (h.courses (h.home s)) looks log (h.home s) worker
+    pub closed : WorkerClosed law meaning lines h.home (length workers) (h.courses (h.home s)) looks log (h.home s) worker
 
   pub at_home : (s : ℕ) → AtHome s
   at_home s =
@@ -64,7 +63,7 @@ module _ (law : Law) (state : List Entry → SpaceMap → Type 0) (spells : List
       record {
         worker = w.0;
         at = w.1;
-        closed = subst (λ n. WorkerClosed law state spells lines h.home (length workers) (h.courses n) looks log n w.0) same (h.each (h.home s - 1) w.0 w.1);
+        closed = subst (λ n. WorkerClosed law meaning lines h.home (length workers) (h.courses n) looks log n w.0) same (h.each (h.home s - 1) w.0 w.1);
       }
 
   -- a session's desk there, before and after its node closed
@@ -91,7 +90,7 @@ module _ (law : Law) (state : List Entry → SpaceMap → Type 0) (spells : List
     all = k.all;
     ends = end_is s n (Some k.now) k.is ∙ ap (λ d. end_at lines (h.run.when s) (Some d)) k.rest;
     stands =
-        desk_run law state spells lines h.home (length workers) h.run looks h.courses h.joined (h.home s) (length lines) (length lines) h.run.phase n.worker.seat n.closed.was (h.lines_are.there s) (h.lines_are.within s)
+        desk_run law meaning lines h.home (length workers) h.run looks h.courses h.joined (h.home s) (length lines) (length lines) h.run.phase n.worker.seat n.closed.was (h.lines_are.there s) (h.lines_are.within s)
         (ended_at (h.home s) n.worker n.closed (h.lines_are.there s) (h.lines_are.within s)) s was there;
   }
 

@@ -1,7 +1,6 @@
 -- How far nodes trimmed the log, once the run has ended.
 use Rattle.std.proofs.Common.{◌≡◌, ◌≢◌, refl, sym, ap, ◌∙◌, subst, inl, inr, ◌⊎◌, ⊎_elim, ℕ, zero, suc, ◌<◌, ◌≤◌, Bool, true, false, List, [], ◌∷◌, Option, Some, None, map, length, take, slice_get, Contains, arith}
 use Rattle.std.proofs.lemmas.Bool.{cases_lt}
-use Rattle.delos_types.specs.Spaces.{SpaceMap}
 use Rattle.delos_types.specs.declared.entry.Entry.{Entry}
 use Rattle.delos_types.specs.declared.chain.Chain.{Chain}
 use Rattle.legal_journal.specs.Law.{Law}
@@ -17,7 +16,7 @@ use Rattle.engine_api.specs.Acted.{asked_in, unpack_all}
 use Rattle.engine_api.specs.Items.{unpack}
 use Rattle.engine_api.specs.Members.{has_left, least_position, position_of, trim_point}
 use Rattle.engine_api.specs.Order.{is_clean}
-use Rattle.replica_api.specs.Replica.{Saved}
+use Rattle.replica_api.specs.Replica.{Meaning}
 use Rattle.turn_scopes.specs.Floors.{FloorIs}
 use Rattle.base_engine.proofs.Showing.{shows_all}
 use Rattle.log_laws.proofs.Membership.{least_some, least_upto, left_says, point_says, position_says, unpack_says}
@@ -133,7 +132,7 @@ who_there lines home nodes are who c h = by c h
     by (content.Leave node) k = line_there k.1.at k.1.line k.1.is k.1.node
     by (content.Trim position) k = line_there k.at k.line k.is k.node
 
-module _ (law : Law) (state : List Entry → SpaceMap → Type 0) (spells : List ℕ → Saved → Type 0) (run : MayRun law) (lines : List NamedLine) (journal : List Event) (looks : List (Option Looked)) (log : List Entry) (workers : List WorkerEnd) (o : Told) (yard : Shown) (mine : (who : ℕ) (e : Entry) → law.may who e → may_of lines who e) (floor_is : FloorIs law.floor (length workers)) (h : HasClosed law state spells lines journal looks log workers) (are : AreRows lines workers looks o.rows) (back : IsGivenBack law journal workers o.chain yard) where
+module _ (law : Law) (meaning : Meaning) (run : MayRun law) (lines : List NamedLine) (journal : List Event) (looks : List (Option Looked)) (log : List Entry) (workers : List WorkerEnd) (o : Told) (yard : Shown) (mine : (who : ℕ) (e : Entry) → law.may who e → may_of lines who e) (floor_is : FloorIs law.floor (length workers)) (h : HasClosed law meaning lines journal looks log workers) (are : AreRows lines workers looks o.rows) (back : IsGivenBack law journal workers o.chain yard) where
   abbrev played : List Played
   played = played_of lines o.rows looks
 
@@ -292,7 +291,7 @@ module _ (law : Law) (state : List Entry → SpaceMap → Type 0) (spells : List
   -- Lines and their rows
 
   played_lines : map (λ t. t.line) played ≡ lines
-  played_lines = lines_are lines o.rows looks are.size (looks_size law state spells lines journal looks log workers h)
+  played_lines = lines_are lines o.rows looks are.size (looks_size law meaning lines journal looks log workers h)
 
   -- a line with its row
   turn_at : (at : ℕ) (line : NamedLine) → slice_get lines at ≡ Some line → (t : Played) × (slice_get played at ≡ Some t) × (t.line ≡ line)

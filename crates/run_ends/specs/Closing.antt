@@ -1,6 +1,5 @@
 -- All nodes of a run once they have closed.
 use Rattle.std.specs.Prelude.{◌≡◌, ◌≢◌, ℕ, ◌+◌, ◌<◌, ◌≤◌, true, List, length, map, Contains, slice_get, Option, Some}
-use Rattle.delos_types.specs.Spaces.{SpaceMap}
 use Rattle.delos_types.specs.declared.entry.Entry.{Entry}
 use Rattle.delos_types.specs.declared.chain.Chain.{Chain}
 use Rattle.loglet_api.specs.View.{LogletView}
@@ -12,7 +11,7 @@ use Rattle.fabric_core.specs.Log.{virtual_log_at, virtual_tail}
 use Rattle.fabric_core.specs.Runs.{HasRun, HasRegisterRun}
 use Rattle.virtual_log.specs.Holding.{Holds}
 use Rattle.virtual_log.specs.declared.extend.Extension.TheVariants.{Moved}
-use Rattle.replica_api.specs.Replica.{Saved}
+use Rattle.replica_api.specs.Replica.{Meaning}
 use Rattle.base_engine.specs.Reading.{IsFront}
 use Rattle.script_text.specs.declared.asks.NamedLine.{NamedLine}
 use Rattle.fitting_run.specs.Yard.{Shown}
@@ -50,14 +49,14 @@ pub record DeskClosed (log : List Entry) (s : ℕ) (was : Desk) (desks : List De
   pub all : 0 < was.asked → AreAllAnswers log s now.answers.items
 
 -- Node n rests behind the last line; no node has played the log further than `log`.
-pub record WorkerClosed (law : Law) (state : List Entry → SpaceMap → Type 0) (spells : List ℕ → Saved → Type 0) (lines : List NamedLine) (home : ℕ → ℕ) (nodes : ℕ) (c : NodeCourse) (looks : List (Option Looked)) (log : List Entry) (n : ℕ) (w : WorkerEnd) : Type 0 where
+pub record WorkerClosed (law : Law) (meaning : Meaning) (lines : List NamedLine) (home : ℕ → ℕ) (nodes : ℕ) (c : NodeCourse) (looks : List (Option Looked)) (log : List Entry) (n : ℕ) (w : WorkerEnd) : Type 0 where
   pub was : List Desk
-  pub rests : Rests law state spells lines home nodes c looks n (length lines) c.phase w.seat was
+  pub rests : Rests law meaning lines home nodes c looks n (length lines) c.phase w.seat was
   pub short : w.seat.node.replica.cursor ≤ length log
   pub size : length w.desks ≡ length was
   pub each : (s : ℕ) (d : Desk) → slice_get was s ≡ Some d → DeskClosed log s d w.desks
 
-pub record HasClosed (law : Law) (state : List Entry → SpaceMap → Type 0) (spells : List ℕ → Saved → Type 0) (lines : List NamedLine) (journal : List Event) (looks : List (Option Looked)) (log : List Entry) (workers : List WorkerEnd) : Type 0 where
+pub record HasClosed (law : Law) (meaning : Meaning) (lines : List NamedLine) (journal : List Event) (looks : List (Option Looked)) (log : List Entry) (workers : List WorkerEnd) : Type 0 where
   pub home : ℕ → ℕ
   -- the run, and each node's own course of it
   pub run : NodeCourse
@@ -67,7 +66,7 @@ pub record HasClosed (law : Law) (state : List Entry → SpaceMap → Type 0) (s
   pub joined : AreJoined law lines home (length workers) run looks courses
   pub over : (i : ℕ) (l : NamedLine) → slice_get lines i ≡ Some l → l.phase < run.phase
   pub front : IsFront Holds journal log
-  pub each : (j : ℕ) (w : WorkerEnd) → slice_get workers j ≡ Some w → WorkerClosed law state spells lines home (length workers) (courses (j + 1)) looks log (j + 1) w
+  pub each : (j : ℕ) (w : WorkerEnd) → slice_get workers j ≡ Some w → WorkerClosed law meaning lines home (length workers) (courses (j + 1)) looks log (j + 1) w
   -- where a line found that another node had replaced the last loglet, another has a line in its phase
   pub beside : (i : ℕ) (l : NamedLine) (version : ℕ) → slice_get lines i ≡ Some l → slice_get looks i ≡ Some (Some (looked.Extended (Moved version))) → HasBeside lines l
   -- nobody but nodes began a Seal

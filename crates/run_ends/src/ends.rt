@@ -37,7 +37,7 @@ use replica_api::replica::Replica;
 /// Each fault that came was counted, and stands in the yard.
 pub fn the_faults_were_counted<P: Rules, S: Replica>()
     ensures { MayRun P.law → (lines : List NamedLine) (rows : List Row) (journal : List Event) (looks : List (Option Looked)) (log : List Entry) (workers : List WorkerEnd) (o : Told) (yard : Shown)
-        → (h : HasClosed P.law S.state S.spells lines journal looks log workers)
+        → (h : HasClosed P.law S.meaning lines journal looks log workers)
         → AreRows lines workers looks rows → IsGivenBack P.law journal workers o.chain yard
         → FaultsCame (played_of lines rows looks) h.run.faults yard }
 {
@@ -51,14 +51,14 @@ pub fn the_faults_were_counted<P: Rules, S: Replica>()
 /// Each line can be told: its command was answered, or its session was stopped; its read was played.
 pub fn what_closed_can_be_told<P: Rules, S: Replica>()
     ensures { MayRun P.law → (lines : List NamedLine) (journal : List Event) (looks : List (Option Looked)) (log : List Entry) (workers : List WorkerEnd)
-        → HasClosed P.law S.state S.spells lines journal looks log workers → CanTell lines workers looks }
+        → HasClosed P.law S.meaning lines journal looks log workers → CanTell lines workers looks }
 {}
 
 /// Each line ended as its row says.
 pub fn each_line_has_ended<P: Rules, S: Replica>()
     ensures { MayRun P.law → (lines : List NamedLine) (rows : List Row) (journal : List Event) (looks : List (Option Looked)) (log : List Entry) (workers : List WorkerEnd)
         → ((who : ℕ) (e : Entry) → P.law.may who e → may_of lines who e)
-        → (h : HasClosed P.law S.state S.spells lines journal looks log workers)
+        → (h : HasClosed P.law S.meaning lines journal looks log workers)
         → AreRows lines workers looks rows
         → AllAfter (LineEnded log (tails h.run) h.run.faults (end_of lines workers h.home h.run.when)) [] (played_of lines rows looks) }
 {
@@ -68,7 +68,7 @@ pub fn each_line_has_ended<P: Rules, S: Replica>()
 /// Each session ended, stopped by a fault or not.
 pub fn each_session_has_ended<P: Rules, S: Replica>()
     ensures { MayRun P.law → (lines : List NamedLine) (rows : List Row) (journal : List Event) (looks : List (Option Looked)) (log : List Entry) (workers : List WorkerEnd) (s : ℕ)
-        → (h : HasClosed P.law S.state S.spells lines journal looks log workers)
+        → (h : HasClosed P.law S.meaning lines journal looks log workers)
         → AreRows lines workers looks rows
         → SessionEnded (played_of lines rows looks) h.run.faults h.home s (end_of lines workers h.home h.run.when s) }
 {}
@@ -77,7 +77,7 @@ pub fn each_session_has_ended<P: Rules, S: Replica>()
 /// where no fault came. Where nothing is trimmed each loglet up to it has a segment.
 pub fn each_segment_is_told<P: Rules, S: Replica>()
     ensures { (lines : List NamedLine) (rows : List Row) (journal : List Event) (looks : List (Option Looked)) (log : List Entry) (workers : List WorkerEnd)
-        → HasClosed P.law S.state S.spells lines journal looks log workers → AreRows lines workers looks rows
+        → HasClosed P.law S.meaning lines journal looks log workers → AreRows lines workers looks rows
         → GoesAsTold (played_of lines rows looks) rows (length workers) (faults_in journal) (state_of journal).register.chain }
 {}
 
@@ -85,7 +85,7 @@ pub fn each_segment_is_told<P: Rules, S: Replica>()
 pub fn what_closed_has_ended<P: Rules, S: Replica>()
     ensures { MayRun P.law → (lines : List NamedLine) (journal : List Event) (looks : List (Option Looked)) (log : List Entry) (workers : List WorkerEnd) (o : Told) (yard : Shown)
         → ((who : ℕ) (e : Entry) → P.law.may who e → may_of lines who e) → FloorIs P.law.floor (length workers)
-        → HasClosed P.law S.state S.spells lines journal looks log workers
+        → HasClosed P.law S.meaning lines journal looks log workers
         → AreRows lines workers looks o.rows → o.end ≡ length log → IsGivenBack P.law journal workers o.chain yard
         → IsRegisterAsTold (state_of journal).register yard.register → ChainIsRegistered o yard.register
         → (map (λ t. t.line) (played_of lines o.rows looks) ≡ lines) × RunEnded (played_of lines o.rows looks) o yard }
@@ -100,7 +100,7 @@ pub fn what_closed_has_ended<P: Rules, S: Replica>()
 /// A run whose nodes have closed stays so as its chain is read, by a user that is no node.
 pub fn reads_change_nothing<P: Rules, S: Replica>()
     ensures { (lines : List NamedLine) (journal more : List Event) (looks : List (Option Looked)) (log : List Entry) (workers : List WorkerEnd)
-        → HasClosed P.law S.state S.spells lines journal looks log workers
+        → HasClosed P.law S.meaning lines journal looks log workers
         → AreOwn 0 more → AreReads more → IsLegal P.law (journal ++ more)
-        → HasClosed P.law S.state S.spells lines (journal ++ more) looks log workers }
+        → HasClosed P.law S.meaning lines (journal ++ more) looks log workers }
 {}

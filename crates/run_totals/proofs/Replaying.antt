@@ -1,6 +1,6 @@
 -- Commands put in their turns and done again are the acts of placed rows, put in order.
-use Rattle.std.proofs.Common.{◌≡◌, refl, sym, ap, ◌∙◌, List, [], ◌∷◌, ◌++◌, Option, Some, map, fold, filter, flat_map, zip, true, Ordering, Less, Equal, Greater}
-use Rattle.std.specs.Ordering.{ordering_then, nat_cmp, match_ordering}
+use Rattle.std.proofs.Common.{◌≡◌, refl, sym, ap, ◌∙◌, List, [], ◌∷◌, ◌++◌, Option, Some, map, fold, filter, flat_map, zip, true, Less, Equal, Greater}
+use Rattle.std.specs.Ordering.{match_ordering}
 use Rattle.std.specs.BTreeMap.{insert_entry}
 use Rattle.std.specs.FinMap as finmap
 use Rattle.std.specs.FinMap.Entries.{by_order}
@@ -19,9 +19,11 @@ use Rattle.fitting_run.specs.declared.answered.Answered.{Answered}
 use Rattle.fitting_run.specs.declared.told.Told.{Told}
 use Rattle.fitting_run.specs.Answered.{has_row, answered_lines}
 use Rattle.fitting_run.specs.Acts.{act_of, act_order}
-use Rattle.run_totals.specs.declared.counting.Turn.{Turn}
+use Rattle.fitting_run.specs.Turns.{turn_cmp, turn_of}
+use Rattle.fitting_run.specs.declared.acting.Turn.{Turn}
+use Rattle.fitting_run.proofs.Turning.{order-turn}
 use Rattle.run_totals.specs.Totals.{table_told}
-use Rattle.run_totals.specs.Replay.{Turns, turn_cmp, turn_of, shown, placed_of, with_placed, with_acts, acts_told, table_by}
+use Rattle.run_totals.specs.Replay.{Turns, shown, placed_of, with_placed, with_acts, acts_told, table_by}
 
 -- A map of turns shows what is put into it
 
@@ -51,15 +53,6 @@ told-nothing [] = refl
 told-nothing (l ∷ ls) = refl
 
 -- Turns are put in the order of acts
-
-then-assoc : (a b c : Ordering) → ordering_then a (ordering_then b c) ≡ ordering_then (ordering_then a b) c
-then-assoc Less b c = refl
-then-assoc Equal b c = refl
-then-assoc Greater b c = refl
-
-order-turn : (a b : Act) → act_order a b ≡ turn_cmp (turn_of a) (turn_of b)
-order-turn a b =
-    then-assoc (nat_cmp a.place.pos b.place.pos) (nat_cmp a.place.sub b.place.sub) (ordering_then (nat_cmp a.rank b.rank) (nat_cmp a.session b.session))
 
 -- an act's command by its turn
 abbrev by_turn : Act × Act → Turn × Option Command

@@ -1,7 +1,5 @@
 -- How the placed commands are put in order and done again.
 use Rattle.std.specs.Prelude.{List, [], ◌∷◌, ◌++◌, fold, map, Option, Some, None}
-use Rattle.std.specs.Ordering.{nat_cmp, ordering_then}
-use Rattle.std.specs.declared.cmp.Ordering.{Ordering}
 use Rattle.std.specs.FinMap as finmap
 use Rattle.table_core.specs.declared.command.Command.{Command}
 use Rattle.table_core.specs.Table.{TableMap, act}
@@ -13,15 +11,8 @@ use Rattle.row_text.specs.declared.row.Row.{Row}
 use Rattle.row_text.specs.declared.row.Outcome.{Outcome}
 use Rattle.row_text.specs.declared.row.Outcome.TheVariants as out
 use Rattle.fitting_run.specs.Acts.{act_of}
-use Rattle.run_totals.specs.declared.counting.Turn.{Turn}
-
--- by place, and what acted at one place by rank
-abbrev pub turn_cmp : Turn → Turn → Ordering
-turn_cmp a b =
-    ordering_then (ordering_then (nat_cmp a.place.pos b.place.pos) (nat_cmp a.place.sub b.place.sub)) (ordering_then (nat_cmp a.rank b.rank) (nat_cmp a.session b.session))
-
-abbrev pub turn_of : Act → Turn
-turn_of a = record { place = a.place; rank = a.rank; session = a.session }
+use Rattle.fitting_run.specs.Turns.{turn_cmp, turn_of}
+use Rattle.fitting_run.specs.declared.acting.Turn.{Turn}
 
 -- commands by their turns, with the spelling that an act has
 abbrev pub Turns : Type 0

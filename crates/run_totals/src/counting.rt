@@ -7,8 +7,7 @@ ghost use Rattle.run_totals.specs.Replay.{shown, placed_of, with_placed, with_ac
 
 use crate::totals::Totals;
 use delos_types::bytes::Bytes;
-use delos_types::numbers::{Rank, SessionId};
-use delos_types::place::Place;
+use fitting_run::acting::Turn;
 use fitting_run::told::Told;
 use row_text::row::{Outcome, Row};
 use script_text::asks::{Asks, NamedLine};
@@ -17,14 +16,6 @@ use std::collections::BTreeMap;
 use table_core::amount::amount_of;
 use table_core::command::Command;
 use table_core::table::Table;
-
-// Where a placed command stands among the others: by its place, and at one place by rank.
-#[derive(Clone, Copy, PartialEq, Eq, PartialOrd, Ord)]
-struct Turn {
-    place: Place,
-    rank: Rank,
-    session: SessionId,
-}
 
 // Placed commands by their turns.
 type Turns = BTreeMap<Turn, Command>;

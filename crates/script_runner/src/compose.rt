@@ -18,6 +18,7 @@ use disk_model::Disk;
 use fate_words::chooser::Chooser;
 use fitting_run::fitting::is_open;
 use fitting_run::told::Told;
+use gate_points::Gate;
 use local_replica::layers::Layers;
 use loglet_api::loglet::Loglet;
 use made_script::make::make_script;
@@ -33,6 +34,8 @@ use script_text::refusal::refusal_text;
 use script_text::script::{BadLine, ParseError, Script, parse};
 use script_words::plan::{Plan, Task, bad_words_text};
 use std::alloc::{AllocError, Global};
+use std::sync::Wait;
+use std::thread::Threads;
 
 /// How many bytes of a source are read at most: one more than a script may have.
 const READ_LIMIT: usize = 1_048_577;
@@ -147,11 +150,21 @@ fn compose_told(
 }
 
 /// Runs a script, and makes the text of what it told.
-fn compose_run<L: Loglet, R: Register, E: Layers, D: Disk, C: Chooser>(
+fn compose_run<
+    W: Threads + Wait + Sync,
+    L: Loglet + Send,
+    R: Register + Send,
+    E: Layers + Send,
+    D: Disk + Send,
+    C: Chooser + Send,
+    G: Gate + Sync,
+>(
+    rt: &W,
     alloc: Global,
     plan: &Plan,
     script: Script,
     yard: Yard<L, R, E, D, C>,
+    gate: &G,
 ) -> Worked<L, R, E, D, C>
     requires fresh { IsFreshFor (λ k. E.kinds k.engines) (λ k. E.waiting k.engines) (λ k. D.view k.disk) plan.now (map L.view yard.shelf.items) (R.view yard.register) yard.nodes.items }
     requires plan { IsPlan plan.now }
@@ -172,7 +185,7 @@ fn compose_run<L: Loglet, R: Register, E: Layers, D: Disk, C: Chooser>(
         }
     };
     let asked = lines.as_slice();
-    let Played { yard, told } = play(alloc, yard, asked);
+    let Played { yard, told } = play(rt, alloc, yard, asked, gate);
     let answer = compose_told(alloc, plan, asked, told);
     Worked { yard, answer }
 }
@@ -210,11 +223,22 @@ fn compose_bad_words(alloc: Global) -> Result<Composed, Failure>
 }
 
 /// Reads the script of the source, runs it, and makes the text.
-fn compose_script<L: Loglet, R: Register, E: Layers, D: Disk, C: Chooser, S: Source>(
+fn compose_script<
+    W: Threads + Wait + Sync,
+    L: Loglet + Send,
+    R: Register + Send,
+    E: Layers + Send,
+    D: Disk + Send,
+    C: Chooser + Send,
+    S: Source,
+    G: Gate + Sync,
+>(
+    rt: &W,
     alloc: Global,
     plan: &Plan,
     source: &mut S,
     yard: Yard<L, R, E, D, C>,
+    gate: &G,
 ) -> Worked<L, R, E, D, C>
     requires fresh { IsFreshFor (λ k. E.kinds k.engines) (λ k. E.waiting k.engines) (λ k. D.view k.disk) plan.now (map L.view yard.shelf.items) (R.view yard.register) yard.nodes.items }
     requires plan { IsPlan plan.now }
@@ -243,7 +267,7 @@ fn compose_script<L: Loglet, R: Register, E: Layers, D: Disk, C: Chooser, S: Sou
         }
     };
     match parse(alloc, bytes.as_slice(), plan.nodes) {
-        Ok(script) => return compose_run(alloc, plan, script, yard),
+        Ok(script) => return compose_run(rt, alloc, plan, script, yard, gate),
         Err(ParseError::Bad(bad)) => {
             return Worked {
                 yard,
@@ -260,11 +284,21 @@ fn compose_script<L: Loglet, R: Register, E: Layers, D: Disk, C: Chooser, S: Sou
 }
 
 /// Makes a script of so many commands, runs it, and makes the text.
-fn compose_made<L: Loglet, R: Register, E: Layers, D: Disk, C: Chooser>(
+fn compose_made<
+    W: Threads + Wait + Sync,
+    L: Loglet + Send,
+    R: Register + Send,
+    E: Layers + Send,
+    D: Disk + Send,
+    C: Chooser + Send,
+    G: Gate + Sync,
+>(
+    rt: &W,
     alloc: Global,
     plan: &Plan,
     count: u16,
     yard: Yard<L, R, E, D, C>,
+    gate: &G,
 ) -> Worked<L, R, E, D, C>
     requires fresh { IsFreshFor (λ k. E.kinds k.engines) (λ k. E.waiting k.engines) (λ k. D.view k.disk) plan.now (map L.view yard.shelf.items) (R.view yard.register) yard.nodes.items }
     requires plan { IsPlan plan.now }
@@ -289,15 +323,26 @@ fn compose_made<L: Loglet, R: Register, E: Layers, D: Disk, C: Chooser>(
             answer: Err(Failure::Memory),
         };
     };
-    compose_run(alloc, plan, script, yard)
+    compose_run(rt, alloc, plan, script, yard, gate)
 }
 
 /// Does what the plan says, and makes the text.
-fn compose_task<L: Loglet, R: Register, E: Layers, D: Disk, C: Chooser, S: Source>(
+fn compose_task<
+    W: Threads + Wait + Sync,
+    L: Loglet + Send,
+    R: Register + Send,
+    E: Layers + Send,
+    D: Disk + Send,
+    C: Chooser + Send,
+    S: Source,
+    G: Gate + Sync,
+>(
+    rt: &W,
     alloc: Global,
     plan: &Plan,
     source: &mut S,
     yard: Yard<L, R, E, D, C>,
+    gate: &G,
 ) -> Worked<L, R, E, D, C>
     requires fresh { IsFreshFor (λ k. E.kinds k.engines) (λ k. E.waiting k.engines) (λ k. D.view k.disk) plan.now (map L.view yard.shelf.items) (R.view yard.register) yard.nodes.items }
     requires plan { IsPlan plan.now }
@@ -313,17 +358,28 @@ fn compose_task<L: Loglet, R: Register, E: Layers, D: Disk, C: Chooser, S: Sourc
     ensures kinds { map (λ v. v.kind) (map L.view result.yard.shelf.items) ≡ map (λ v. v.kind) (map L.view yard.shelf.items) }
 {
     match plan.task {
-        Task::Run => return compose_script(alloc, plan, source, yard),
-        Task::Make { lines } => return compose_made(alloc, plan, lines, yard),
+        Task::Run => return compose_script(rt, alloc, plan, source, yard, gate),
+        Task::Make { lines } => return compose_made(rt, alloc, plan, lines, yard, gate),
     }
 }
 
 /// Composes what the plan asks for, if the words have one.
-pub fn compose<L: Loglet, R: Register, E: Layers, D: Disk, C: Chooser, S: Source>(
+pub fn compose<
+    W: Threads + Wait + Sync,
+    L: Loglet + Send,
+    R: Register + Send,
+    E: Layers + Send,
+    D: Disk + Send,
+    C: Chooser + Send,
+    S: Source,
+    G: Gate + Sync,
+>(
+    rt: &W,
     alloc: Global,
     plan: &Option<Plan>,
     source: &mut S,
     yard: Yard<L, R, E, D, C>,
+    gate: &G,
 ) -> Worked<L, R, E, D, C>
     requires fresh { (p : plans.Plan) → plan.now ≡ Some p → IsPlan p × IsFreshFor (λ k. E.kinds k.engines) (λ k. E.waiting k.engines) (λ k. D.view k.disk) p (map L.view yard.shelf.items) (R.view yard.register) yard.nodes.items }
     ensures ok { IfOk result.answer (IsComposed plan.now (S.left source.old) (shown L.view R.view (λ k. (D.view k.disk).faults) result.yard.shelf.items result.yard.register result.yard.nodes.items)) }
@@ -336,7 +392,7 @@ pub fn compose<L: Loglet, R: Register, E: Layers, D: Disk, C: Chooser, S: Source
     ensures kinds { map (λ v. v.kind) (map L.view result.yard.shelf.items) ≡ map (λ v. v.kind) (map L.view yard.shelf.items) }
 {
     match plan {
-        Some(plan) => return compose_task(alloc, plan, source, yard),
+        Some(plan) => return compose_task(rt, alloc, plan, source, yard, gate),
         None => {
             return Worked {
                 yard,

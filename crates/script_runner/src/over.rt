@@ -10,6 +10,7 @@ use crew_run::run::{Ran, run_lines};
 use disk_model::Disk;
 use fate_words::chooser::Chooser;
 use fitting_run::told::Told;
+use gate_points::Gate;
 use local_replica::layers::Layers;
 use loglet_api::loglet::Loglet;
 use node_opening::closing::close_all;
@@ -17,6 +18,8 @@ use node_opening::opening::open_all;
 use register_api::Register;
 use script_text::asks::NamedLine;
 use std::alloc::{AllocError, Global};
+use std::sync::Wait;
+use std::thread::Threads;
 
 /// What a script told, if memory sufficed, and what it was run over.
 pub struct Played<L: Loglet, R: Register, E: Layers, D: Disk, C: Chooser> {
@@ -25,10 +28,20 @@ pub struct Played<L: Loglet, R: Register, E: Layers, D: Disk, C: Chooser> {
 }
 
 /// Plays a script's lines: the nodes' stores are opened, the lines are run, and the nodes are taken apart again.
-pub fn play<L: Loglet, R: Register, E: Layers, D: Disk, C: Chooser>(
+pub fn play<
+    W: Threads + Wait + Sync,
+    L: Loglet + Send,
+    R: Register + Send,
+    E: Layers + Send,
+    D: Disk + Send,
+    C: Chooser + Send,
+    G: Gate + Sync,
+>(
+    rt: &W,
     alloc: Global,
     yard: Yard<L, R, E, D, C>,
     lines: &[NamedLine],
+    gate: &G,
 ) -> Played<L, R, E, D, C>
     requires cells { AreFresh (map L.view yard.shelf.items) }
     requires register { view.IsFresh (R.view yard.register) }
@@ -55,7 +68,7 @@ pub fn play<L: Loglet, R: Register, E: Layers, D: Disk, C: Chooser>(
                 register,
                 nodes,
                 told,
-            } = run_lines(alloc, shelf, register, nodes, lines);
+            } = run_lines(rt, alloc, shelf, register, nodes, lines, gate);
             close_all(nodes, &mut parts);
             return Played {
                 yard: Yard {

@@ -11,6 +11,7 @@ use crate::ended::{End, Ended, Status};
 use crate::yard::Yard;
 use disk_model::Disk;
 use fate_words::chooser::Chooser;
+use gate_points::Gate;
 use local_replica::layers::Layers;
 use loglet_api::loglet::Loglet;
 use outside_ends::sink::Sink;
@@ -19,6 +20,8 @@ use outside_ends::whole::put_whole;
 use register_api::Register;
 use script_words::plan::{Plan, WordsError, read_words};
 use std::alloc::Global;
+use std::sync::Wait;
+use std::thread::Threads;
 
 /// Does what the words say. `run` runs the script that the source has left, and puts the text of its rows and of the chain.
 /// `make` makes a script of a seed and runs it, and puts four lines that count over its rows; of the source it takes nothing. The
@@ -28,16 +31,30 @@ use std::alloc::Global;
 /// chain's open segment; the register of the chain; and for each node its five engines, an empty disk, and what chooses for it. It
 /// comes back, however the run ends. Where the words have no plan, nothing of it is touched.
 ///
+/// The nodes play their lines of a phase beside one another, each in a thread of its own, and pass the gate as they do; what is told fits
+/// whatever the order in which their events come.
+///
 /// A node whose disk fails as its store is begun goes on without it, and opens it again when it has an entry to apply.
 ///
 /// Takes time that grows with the script and its rows, and for each node with the log that it plays.
-pub fn run<H, L: Loglet, R: Register, E: Layers, D: Disk, C: Chooser, S: Source, K: Sink>(
-    rt: &H,
+pub fn run<
+    W: Threads + Wait + Sync,
+    L: Loglet + Send,
+    R: Register + Send,
+    E: Layers + Send,
+    D: Disk + Send,
+    C: Chooser + Send,
+    S: Source,
+    K: Sink,
+    G: Gate + Sync,
+>(
+    rt: &W,
     alloc: Global,
     words: &[String],
     source: &mut S,
     sink: &mut K,
     yard: Yard<L, R, E, D, C>,
+    gate: &G,
 ) -> Ended<L, R, E, D, C>
     requires { (p : plans.Plan) → plan_of (map string_bytes words.now) ≡ Some p → IsFreshFor (λ k. E.kinds k.engines) (λ k. E.waiting k.engines) (λ k. D.view k.disk) p (map L.view yard.shelf.items) (R.view yard.register) yard.nodes.items }
 
@@ -53,20 +70,31 @@ pub fn run<H, L: Loglet, R: Register, E: Layers, D: Disk, C: Chooser, S: Source,
     ensures nodes { length result.yard.nodes.items ≡ length yard.nodes.items }
 {
     match read_words(alloc, words) {
-        Ok(plan) => return run_plan(rt, alloc, &Some(plan), source, sink, yard),
-        Err(WordsError::BadWords) => return run_plan(rt, alloc, &None, source, sink, yard),
+        Ok(plan) => return run_plan(rt, alloc, &Some(plan), source, sink, yard, gate),
+        Err(WordsError::BadWords) => return run_plan(rt, alloc, &None, source, sink, yard, gate),
         Err(WordsError::Memory) => return without_a_text(Status::Memory, yard),
     }
 }
 
 /// Does what words say whose plan this is, as `run` does; None stands for words that aren't taken.
-pub fn run_plan<H, L: Loglet, R: Register, E: Layers, D: Disk, C: Chooser, S: Source, K: Sink>(
-    _rt: &H,
+pub fn run_plan<
+    W: Threads + Wait + Sync,
+    L: Loglet + Send,
+    R: Register + Send,
+    E: Layers + Send,
+    D: Disk + Send,
+    C: Chooser + Send,
+    S: Source,
+    K: Sink,
+    G: Gate + Sync,
+>(
+    rt: &W,
     alloc: Global,
     plan: &Option<Plan>,
     source: &mut S,
     sink: &mut K,
     yard: Yard<L, R, E, D, C>,
+    gate: &G,
 ) -> Ended<L, R, E, D, C>
     requires fresh { (p : plans.Plan) → plan.now ≡ Some p → IsPlan p × IsFreshFor (λ k. E.kinds k.engines) (λ k. E.waiting k.engines) (λ k. D.view k.disk) p (map L.view yard.shelf.items) (R.view yard.register) yard.nodes.items }
     ensures ended { HasEnded S.left S.counted K.held K.counted plan.now source.old source.new sink.old sink.new (shown L.view R.view (λ k. (D.view k.disk).faults) result.yard.shelf.items result.yard.register result.yard.nodes.items) result.end }
@@ -75,7 +103,7 @@ pub fn run_plan<H, L: Loglet, R: Register, E: Layers, D: Disk, C: Chooser, S: So
     ensures loglets { length result.yard.shelf.items ≡ length yard.shelf.items }
     ensures nodes { length result.yard.nodes.items ≡ length yard.nodes.items }
 {
-    let Worked { yard, answer } = compose(alloc, plan, source, yard);
+    let Worked { yard, answer } = compose(rt, alloc, plan, source, yard, gate);
     match answer {
         Ok(composed) => {
             let Composed { end, text } = composed;

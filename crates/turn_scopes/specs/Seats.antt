@@ -1,14 +1,12 @@
 -- A node that waits for the fabric.
 use Rattle.std.specs.Prelude.{◌≡◌, ℕ, List, length}
-use Rattle.delos_types.specs.Spaces.{SpaceMap}
-use Rattle.delos_types.specs.declared.entry.Entry.{Entry}
 use Rattle.legal_journal.specs.Law.{Law}
 use Rattle.legal_journal.specs.declared.events.Event.{Event}
 use Rattle.legal_journal.specs.Journal.{state_of}
 use Rattle.virtual_log.specs.Log as log
 use Rattle.virtual_log.specs.Log.{GoesBy}
 use Rattle.virtual_log.specs.Holding.{Holds}
-use Rattle.replica_api.specs.Replica.{Saved}
+use Rattle.replica_api.specs.Replica.{Meaning}
 use Rattle.base_engine.specs.Node as node
 use Rattle.base_engine.specs.Node.{NodeView, NodeOk, awake}
 
@@ -23,7 +21,7 @@ abbrev pub node_of : SeatView → List Event → NodeView
 node_of s journal = awake s.node s.who journal s.log.known
 
 -- it can take the fabric with this journal
-pub record SeatOk (law : Law) (state : List Entry → SpaceMap → Type 0) (spells : List ℕ → Saved → Type 0) (journal : List Event) (s : SeatView) : Type 0 where
+pub record SeatOk (law : Law) (meaning : Meaning) (journal : List Event) (s : SeatView) : Type 0 where
   pub shelf_is : s.log.shelf_len ≡ length law.shelf
   pub goes_by : GoesBy (state_of journal) s.log.version s.log.chain s.log.known
-  pub node : NodeOk law Holds state spells (node_of s journal)
+  pub node : NodeOk law Holds meaning (node_of s journal)

@@ -55,7 +55,7 @@ impl<S: Replica, C: Chooser> Seat<S, C> {
     pub fn wake<A: Access, Q: Scope>(self, access: A) -> Seated<A, Q, S, C>
         requires who { self.who ≡ A.who access }
         requires narrows { Narrows Q.law A.Law.law (A.beside (A.who access)) }
-        requires ok { SeatOk Q.law S.state S.spells (A.seen access) self }
+        requires ok { SeatOk Q.law S.meaning (A.seen access) self }
         requires whose { Q.who ≡ A.who access }
         requires since { Q.since ≡ A.seen access }
         ensures { result ≡ node_of self (A.seen access) }
@@ -72,7 +72,7 @@ pub fn rest<A: Access, Q: Scope, S: Replica, C: Chooser>(
     ensures node { node_of result.0 (A.seen result.1) ≡ node }
     ensures who { A.who result.1 ≡ result.0.who }
     ensures whose { result.0.who ≡ Q.who }
-    ensures ok { SeatOk Q.law S.state S.spells (A.seen result.1) result.0 }
+    ensures ok { SeatOk Q.law S.meaning (A.seen result.1) result.0 }
 
     // Each event within the scope is the node's, or of one of those beside.
     ensures since { Since result.0.who (A.beside result.0.who) Q.since (A.seen result.1) }

@@ -2,7 +2,6 @@
 use Rattle.std.proofs.Common.{◌≡◌, ℕ, List, [], refl, sym, ap, subst, ◌∙◌, Some, None}
 use Rattle.legal_journal.specs.declared.events.Event.{Event}
 use Rattle.legal_journal.specs.Journal.{state_of, IsLegal}
-use Rattle.log_laws.specs.State.{IsStateOf}
 use Rattle.virtual_log.specs.Turning.{Later}
 use Rattle.virtual_log.specs.Holding.{Holds}
 use Rattle.virtual_log.specs.Log.{GoesBy}
@@ -21,12 +20,12 @@ use Rattle.base_engine.specs.Holding.{held_stays}
 use Rattle.base_engine.specs.Node.{NodeView, NodeOk, Keeps, RestedView, awake}
 use Rattle.base_engine.proofs.Following.{follows_later}
 use Rattle.base_engine.proofs.Whole.{ok_same}
-use Rattle.worked_nodes.specs.Resting.{two_nodes, Rests, AreTwo, IsNew}
+use Rattle.worked_nodes.specs.Resting.{local_meaning, two_nodes, Rests, AreTwo, IsNew}
 
 pub rests_later : (who : ℕ) (early late : List Event) (node : RestedView) (log : virtual_log.RestedView) → Later two_nodes early late → Rests who early node log → Rests who late node log
 rests_later who early late node log on r = record {
-  ok = ok_same two_nodes Holds IsStateOf Spells (awake node who early log.known) (awake node who late log.known) r.ok on.legal refl
-      (follows_later two_nodes Holds IsStateOf Spells (held_stays two_nodes) early late node.replica on r.ok.follows) r.ok.bounded refl refl refl refl;
+  ok = ok_same two_nodes Holds local_meaning (awake node who early log.known) (awake node who late log.known) r.ok on.legal refl
+      (follows_later two_nodes Holds local_meaning (held_stays two_nodes) early late node.replica on r.ok.follows) r.ok.bounded refl refl refl refl;
   goes_by = goes_later two_nodes early late log.version log.known log.chain on r.goes_by;
   loglets = r.loglets;
   nodes = r.nodes;
@@ -46,9 +45,9 @@ two_armed number old new after other rested log is two = record {
 -- a node that is laid down
 pub laid_down : (number : ℕ) (view : NodeView) (rested : RestedView) (log : virtual_log.LogView) (kept : virtual_log.RestedView) → view.who ≡ number → view.nodes ≡ 2 → rested ≡ record { nodes = view.nodes; replica = view.replica; outbox = view.outbox }
     → log.seen ≡ view.seen → log.known ≡ view.known → kept ≡ record { known = log.known; version = log.version; chain = log.chain; shelf_len = 1; words = log.words }
-    → NodeOk two_nodes Holds IsStateOf Spells view → GoesBy (state_of log.seen) log.version log.chain log.known → Rests number view.seen rested kept
+    → NodeOk two_nodes Holds local_meaning view → GoesBy (state_of log.seen) log.version log.chain log.known → Rests number view.seen rested kept
 laid_down number view rested log kept who two is seen known left ok goes = record {
-  ok = subst (NodeOk two_nodes Holds IsStateOf Spells) (sym same) ok;
+  ok = subst (NodeOk two_nodes Holds local_meaning) (sym same) ok;
   goes_by = subst (λ (v : virtual_log.RestedView). GoesBy (state_of view.seen) v.version v.chain v.known) (sym left) (subst (λ (s : List Event). GoesBy (state_of s) log.version log.chain log.known) seen goes);
   loglets = ap (λ (v : virtual_log.RestedView). v.shelf_len) left;
   nodes = ap (λ (r : RestedView). r.nodes) is ∙ two;
@@ -65,10 +64,10 @@ laid_down number view rested log kept who two is seen known left ok goes = recor
 
 -- a node that is taken up
 pub taken_up : (number w : ℕ) (seen : List Event) (rested : RestedView) (kept : virtual_log.RestedView) (log : virtual_log.LogView) → log ≡ record { who = w; seen = seen; known = kept.known; version = kept.version; chain = kept.chain; words = kept.words } → w ≡ number
-    → Rests number seen rested kept → NodeOk two_nodes Holds IsStateOf Spells (awake rested log.who log.seen log.known)
+    → Rests number seen rested kept → NodeOk two_nodes Holds local_meaning (awake rested log.who log.seen log.known)
 taken_up number w seen rested kept log is who r =
-    subst (λ (l : virtual_log.LogView). NodeOk two_nodes Holds IsStateOf Spells (awake rested l.who l.seen l.known)) (sym is)
-    (subst (λ (n : ℕ). NodeOk two_nodes Holds IsStateOf Spells (awake rested n seen kept.known)) (sym who) r.ok)
+    subst (λ (l : virtual_log.LogView). NodeOk two_nodes Holds local_meaning (awake rested l.who l.seen l.known)) (sym is)
+    (subst (λ (n : ℕ). NodeOk two_nodes Holds local_meaning (awake rested n seen kept.known)) (sym who) r.ok)
 
 -- a store that was opened on an empty disk
 pub new_store : (v : store.View) (bytes : List ℕ) → bytes ≡ [] → saved_of (records_of bytes) ≡ Some (store.saved_in v) → v.asked ≡ None → store.Survives v → IsNew v

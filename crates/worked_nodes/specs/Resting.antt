@@ -13,6 +13,7 @@ use Rattle.virtual_log.specs.Log.{GoesBy}
 use Rattle.virtual_log.specs.Log as virtual_log
 use Rattle.local_store.specs.View as store
 use Rattle.local_replica.specs.Shown.{Spells}
+use Rattle.replica_api.specs.Replica.{Meaning}
 use Rattle.base_engine.specs.Node.{NodeView, NodeOk, RestedView, awake}
 
 -- everybody may append anything
@@ -32,9 +33,13 @@ one_loglet = 1 ∷ []
 abbrev pub two_nodes : Law
 two_nodes = record { may = anything; floor = least_of_two; shelf = one_loglet }
 
+-- what a node's log and its disk mean
+abbrev pub local_meaning : Meaning
+local_meaning = record { state = IsStateOf; spells = Spells }
+
 -- what a node without its log has, and what it knows of its log, holds by this journal
 pub record Rests (who : ℕ) (seen : List Event) (node : RestedView) (log : virtual_log.RestedView) : Type 0 where
-  pub ok : NodeOk two_nodes Holds IsStateOf Spells (awake node who seen log.known)
+  pub ok : NodeOk two_nodes Holds local_meaning (awake node who seen log.known)
   pub goes_by : GoesBy (state_of seen) log.version log.chain log.known
   pub loglets : log.shelf_len ≡ 1
   pub nodes : node.nodes ≡ 2

@@ -13,6 +13,8 @@ use crate::tabling::show_tables;
 use crate::trimming::show_trims;
 use anyhow::{Context, ensure};
 use std::fs;
+use std::sync::Wait;
+use std::thread::Threads;
 
 /// What the cases of a file are.
 #[derive(Clone, Copy)]
@@ -40,10 +42,15 @@ pub(crate) enum Topic {
 }
 
 /// Prints what comes of a case.
-fn show(rt: &HostRuntime, topic: Topic, input: &[&str]) -> anyhow::Result<()> {
+fn show<W: Threads + Wait + Sync>(
+    rt: &HostRuntime,
+    threads: &W,
+    topic: Topic,
+    input: &[&str],
+) -> anyhow::Result<()> {
     match topic {
-        Topic::Run => show_run(rt, input),
-        Topic::RunRows => show_run_rows(rt, input),
+        Topic::Run => show_run(rt, threads, input),
+        Topic::RunRows => show_run_rows(rt, threads, input),
         Topic::Sessions => show_sessions(rt, input),
         Topic::Acts => show_acts(rt, input),
         Topic::Tables => show_tables(rt, input),
@@ -68,7 +75,12 @@ fn echo(rt: &HostRuntime, line: &str) -> anyhow::Result<()> {
 }
 
 /// Prints each case of a file with what comes of it, and tells how many there are.
-pub(crate) fn play_file(rt: &HostRuntime, file: &str, topic: Topic) -> anyhow::Result<u64> {
+pub(crate) fn play_file<W: Threads + Wait + Sync>(
+    rt: &HostRuntime,
+    threads: &W,
+    file: &str,
+    topic: Topic,
+) -> anyhow::Result<u64> {
     let alloc = rt.alloc();
     let text = fs::read_to_string(rt, file)?;
     println!(rt; "==== {file}")?;
@@ -79,7 +91,7 @@ pub(crate) fn play_file(rt: &HostRuntime, file: &str, topic: Topic) -> anyhow::R
         number = number.saturating_add(1);
         echo(rt, line)?;
         if line == "----" {
-            show(rt, topic, input.as_slice()).context(format_args!(
+            show(rt, threads, topic, input.as_slice()).context(format_args!(
                 "{file}, the case that ends in line {number}"
             ))?;
             input = Vec::new(alloc);

@@ -48,7 +48,7 @@ const FILES: [(&str, Topic); 18] = [
 fn main(rt: HostRuntime) -> anyhow::Result<()> {
     let mut counts = Vec::new(rt.alloc());
     for (file, topic) in FILES {
-        counts.push((file, play_file(&rt, file, topic)?))?;
+        counts.push((file, play_file(&rt, &rt, file, topic)?))?;
     }
     for (file, count) in counts.as_slice() {
         println!(&rt; "{file}: {count} cases")?;

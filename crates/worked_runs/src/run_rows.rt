@@ -6,14 +6,20 @@ use crate::words::{number_in, words_of};
 use anyhow::{bail, ensure};
 use fitting_run::answered::Answered;
 use fitting_run::fitting::{as_many_rows, reads_are_within};
+use std::sync::Wait;
+use std::thread::Threads;
 
 /// Runs a script over a file loglet, and prints how many rows there are, the end, and whether the rows fit the script. Below the
 /// line `rows` a case names positions, as `within 3`, and it is printed whether each read looked at most there.
-pub(crate) fn show_run_rows(rt: &HostRuntime, input: &[&str]) -> anyhow::Result<()> {
+pub(crate) fn show_run_rows<W: Threads + Wait + Sync>(
+    rt: &HostRuntime,
+    threads: &W,
+    input: &[&str],
+) -> anyhow::Result<()> {
     let alloc = rt.alloc();
     let (script, limits) = halves(input)?;
     let script = script_of(alloc, script)?;
-    let told = run_plainly(rt, script.as_slice())?;
+    let told = run_plainly(threads, alloc, script.as_slice())?;
     let end = told.end;
     let rows = told.rows.into_vec();
     let count = rows.len();

@@ -1,6 +1,7 @@
 //! What a case says of its run: the words of the command line, the script, and what the run stands on.
 use crate::words::{number_in, words_of};
 use anyhow::{Context, bail, ensure};
+use gate_points::Point;
 use shelf_loglets::shelf::Rooms;
 use std::alloc::Global;
 use std::fs;
@@ -32,6 +33,15 @@ impl DiskFaults {
     }
 }
 
+/// A node is held at its first pass of a point until another one has passed a point of its own.
+#[derive(Clone, Copy)]
+pub(crate) struct Hold {
+    pub(crate) node: u32,
+    pub(crate) point: Point,
+    pub(crate) other: u32,
+    pub(crate) until: Point,
+}
+
 /// A run of the program.
 #[derive(Drop)]
 pub(crate) struct Setup {
@@ -50,6 +60,9 @@ pub(crate) struct Setup {
     pub(crate) is_counted: bool,
     /// The text of the run isn't told.
     pub(crate) is_silent: bool,
+    pub(crate) hold: Option<Hold>,
+    /// The texts of which the run puts one, where nodes stand side by side and the case says which they are.
+    pub(crate) texts: Vec<String>,
 }
 
 /// A run without words and without a script, in which nothing fails.
@@ -64,6 +77,27 @@ fn calm(alloc: Global) -> Setup {
         faults: DiskFaults::none(alloc),
         is_counted: false,
         is_silent: false,
+        hold: None,
+        texts: Vec::new(alloc),
+    }
+}
+
+fn node_in(word: &str) -> anyhow::Result<u32> {
+    let number = word
+        .strip_prefix("n")
+        .context(format_args!("`{word}` is no node"))?;
+    number
+        .parse::<u32>()
+        .context(format_args!("`{word}` is no node"))
+}
+
+fn point_in(word: &str) -> anyhow::Result<Point> {
+    match word {
+        "started" => Ok(Point::Started),
+        "appending" => Ok(Point::Appending),
+        "placed" => Ok(Point::Placed),
+        "ended" => Ok(Point::Ended),
+        _ => bail!("`{word}` is no point"),
     }
 }
 
@@ -99,6 +133,14 @@ fn take_condition(alloc: Global, setup: &mut Setup, line: &str) -> anyhow::Resul
         }
         ["loglets:", "counted"] => setup.is_counted = true,
         ["told:", "the", "status", "alone"] => setup.is_silent = true,
+        ["held:", node, point, "until", other, until] => {
+            setup.hold = Some(Hold {
+                node: node_in(node)?,
+                point: point_in(point)?,
+                other: node_in(other)?,
+                until: point_in(until)?,
+            });
+        }
         _ => bail!("no condition of a run: `{line}`"),
     }
     Ok(())
@@ -146,13 +188,27 @@ fn take_line(script: &mut Vec<u8>, line: &str) -> anyhow::Result<()> {
     Ok(())
 }
 
-/// Reads the input of a case: conditions, the command line, and the script.
+/// A line of one of the texts; the lines `either` and `or` stand before one each.
+fn take_text(alloc: Global, texts: &mut Vec<String>, line: &str) -> anyhow::Result<()> {
+    if line == "either" || line == "or" {
+        texts.push(String::new(alloc))?;
+        return Ok(());
+    }
+    let text = texts.last_mut().context("a text without its mark")?;
+    text.push_str(line)?;
+    text.push('\n')?;
+    Ok(())
+}
+
+/// Reads the input of a case: conditions, the command line, the script, and the texts of which the run puts one.
 pub(crate) fn read_setup(rt: &HostRuntime, input: &[&str]) -> anyhow::Result<Setup> {
     let alloc = rt.alloc();
     let mut setup = calm(alloc);
     let mut has_command = false;
     for line in input {
-        if has_command {
+        if *line == "either" || !setup.texts.is_empty() {
+            take_text(alloc, &mut setup.texts, line)?;
+        } else if has_command {
             take_line(&mut setup.script, line)?;
         } else if let Some(command) = line.strip_prefix("$ delos_sim") {
             take_command(rt, &mut setup, command)?;

@@ -20,7 +20,7 @@ entry-init g c =
       follows = c.requires.follows;
       bounded = c.requires.bounded;
       forward = omega (arith);
-      went = goes_none t.holds r.state r.spells (t.seen c.args.log.now) (saved_in (r.shows c.args.replica.now)) (saved_in (r.shows c.args.replica.now)) refl;
+      went = goes_none t.holds r.meaning (t.seen c.args.log.now) (saved_in (r.shows c.args.replica.now)) (saved_in (r.shows c.args.replica.now)) refl;
       below = inl refl;
       counts = omega (arith);
       up = λ h. absurd (cc);
@@ -29,7 +29,7 @@ entry-init g c =
       kept = refl;
       origin = refl;
       quiet = keeps_same (t.who c.args.log.now) (r.shows c.args.replica.now).cursor (t.seen c.args.log.now);
-      any_crash = crash_at_rest t.holds r.state r.spells (t.seen c.args.log.now) (r.shows c.args.replica.now) c.requires.follows;
+      any_crash = crash_at_rest t.holds r.meaning (t.seen c.args.log.now) (r.shows c.args.replica.now) c.requires.follows;
     }
 
 pub entry-preserved-in-Ok-Applied : goal.entry-preserved-in-Ok-Applied
@@ -51,7 +51,7 @@ entry-preserved-in-Ok-Applied g c =
       follows = e.follows;
       bounded = e.bounded;
       forward = omega (arith, i.forward, e.forward);
-      went = goes_after p.law t.holds r.state r.spells g.met.L.SharedLog.stays now new (saved_in (r.shows c.args.replica.now)) (saved_in (r.shows l.replica)) (saved_in (r.shows c.apply_next.new.replica)) e.later i.went e.goes_on;
+      went = goes_after p.law t.holds r.meaning g.met.L.SharedLog.stays now new (saved_in (r.shows c.args.replica.now)) (saved_in (r.shows l.replica)) (saved_in (r.shows c.apply_next.new.replica)) e.later i.went e.goes_on;
       below = inr (omega (arith, plays.0, c.cursor.ensures.cursor, c.entry-test.true));
       counts = omega (arith, i.counts, plays.1);
       up = λ h. plays.2;
@@ -61,7 +61,7 @@ entry-preserved-in-Ok-Applied g c =
       origin = e.origin ∙ i.origin;
       quiet = keeps_on p.law (t.who c.args.log.now) (r.shows c.args.replica.now).cursor first now new i.later e.later (r.shows l.replica).cursor i.forward i.quiet
           (subst (λ w. KeepsTail w (r.shows l.replica).cursor now new) i.who e.quiet);
-      any_crash = crash_on p.law t.holds r.state r.spells g.met.L.SharedLog.stays now new (r.shows c.args.replica.now) (r.shows l.replica) (r.shows c.apply_next.new.replica) e.later i.forward i.any_crash e.any_crash;
+      any_crash = crash_on p.law t.holds r.meaning g.met.L.SharedLog.stays now new (r.shows c.args.replica.now) (r.shows l.replica) (r.shows c.apply_next.new.replica) e.later i.forward i.any_crash e.any_crash;
     }
 
 pub returns-in-Ok-Trimmed-clause-any_crash : goal.returns-in-Ok-Trimmed-clause-any_crash
@@ -72,7 +72,7 @@ returns-in-Ok-Trimmed-clause-any_crash g c =
     let l = c.entry in
     let i = l.invariant in
     let e = c.in-Ok-Trimmed.ensures in
-    crash_on p.law t.holds r.state r.spells g.met.L.SharedLog.stays (t.seen l.log) (t.seen c.apply_next.new.log) (r.shows c.args.replica.now) (r.shows l.replica) (r.shows c.apply_next.new.replica) e.later i.forward i.any_crash e.any_crash
+    crash_on p.law t.holds r.meaning g.met.L.SharedLog.stays (t.seen l.log) (t.seen c.apply_next.new.log) (r.shows c.args.replica.now) (r.shows l.replica) (r.shows c.apply_next.new.replica) e.later i.forward i.any_crash e.any_crash
 
 pub returns-in-Ok-Trimmed-clause-quiet : goal.returns-in-Ok-Trimmed-clause-quiet
 returns-in-Ok-Trimmed-clause-quiet g c =
@@ -95,7 +95,7 @@ returns-then-not-spare-clause-any_crash g c =
     let l = c.entry in
     let i = l.invariant in
     let e = c.in-Ok-Broken.ensures in
-    crash_on p.law t.holds r.state r.spells g.met.L.SharedLog.stays (t.seen l.log) (t.seen c.apply_next.new.log) (r.shows c.args.replica.now) (r.shows l.replica) (r.shows c.apply_next.new.replica) e.later i.forward i.any_crash e.any_crash
+    crash_on p.law t.holds r.meaning g.met.L.SharedLog.stays (t.seen l.log) (t.seen c.apply_next.new.log) (r.shows c.args.replica.now) (r.shows l.replica) (r.shows c.apply_next.new.replica) e.later i.forward i.any_crash e.any_crash
 
 pub returns-in-Err-clause-any_crash : goal.returns-in-Err-clause-any_crash
 returns-in-Err-clause-any_crash g c =
@@ -105,14 +105,14 @@ returns-in-Err-clause-any_crash g c =
     let l = c.entry in
     let i = l.invariant in
     let e = c.in-Err.ensures in
-    crash_on p.law t.holds r.state r.spells g.met.L.SharedLog.stays (t.seen l.log) (t.seen c.apply_next.new.log) (r.shows c.args.replica.now) (r.shows l.replica) (r.shows c.apply_next.new.replica) e.later i.forward i.any_crash e.any_crash
+    crash_on p.law t.holds r.meaning g.met.L.SharedLog.stays (t.seen l.log) (t.seen c.apply_next.new.log) (r.shows c.args.replica.now) (r.shows l.replica) (r.shows c.apply_next.new.replica) e.later i.forward i.any_crash e.any_crash
 
 pub returns-in-Err-open_again-clause-follows : goal.returns-in-Err-open_again-clause-follows
 returns-in-Err-open_again-clause-follows g c =
     let t = g.L.SharedLog in
     let r = g.R.Replica in
     let d = c.in-Err-open_again.ensures.down in
-    follows_same t.holds r.state r.spells (t.seen c.apply_next.new.log) (r.shows c.apply_next.new.replica) (r.shows c.open_again.new.replica) c.in-Ok-Broken.ensures.follows
+    follows_same t.holds r.meaning (t.seen c.apply_next.new.log) (r.shows c.apply_next.new.replica) (r.shows c.open_again.new.replica) c.in-Ok-Broken.ensures.follows
     (ap saved_in d.is) (ap (λ (x : ReplicaView). x.asked) d.is) c.in-Err-open_again.ensures.survives
 
 pub returns-in-Err-open_again-clause-bounded : goal.returns-in-Err-open_again-clause-bounded
@@ -135,9 +135,9 @@ returns-in-Err-open_again-clause-any_crash g c =
     let b = r.shows l.replica in
     let v = r.shows c.apply_next.new.replica in
     let w = r.shows c.open_again.new.replica in
-    crash_on p.law t.holds r.state r.spells g.met.L.SharedLog.stays new new a v w (later_refl p.law new e.later.legal) (omega (arith, i.forward, e.forward))
-    (crash_on p.law t.holds r.state r.spells g.met.L.SharedLog.stays (t.seen l.log) new a b v e.later i.forward i.any_crash e.any_crash)
-    (crash_in_reopen t.holds r.state r.spells new v w e.follows c.in-Err-open_again.ensures.any_crash)
+    crash_on p.law t.holds r.meaning g.met.L.SharedLog.stays new new a v w (later_refl p.law new e.later.legal) (omega (arith, i.forward, e.forward))
+    (crash_on p.law t.holds r.meaning g.met.L.SharedLog.stays (t.seen l.log) new a b v e.later i.forward i.any_crash e.any_crash)
+    (crash_in_reopen t.holds r.meaning new v w e.follows c.in-Err-open_again.ensures.any_crash)
 
 pub entry-smaller : goal.entry-smaller
 entry-smaller g c =
@@ -147,7 +147,7 @@ entry-smaller g c =
     let new = t.seen c.apply_next.new.log in
     let v = r.shows c.apply_next.new.replica in
     let w = r.shows c.open_again.new.replica in
-    let found = found_state t.holds r.state r.spells new v (saved_in w) e.follows c.in-Ok.ensures.up.found in
+    let found = found_state t.holds r.meaning new v (saved_in w) e.follows c.in-Ok.ensures.up.found in
     let up : v.cursor ≤ w.cursor = found.forward in
     let on : (r.shows c.entry.replica).cursor ≤ v.cursor = e.forward in
     let turn : turns_left c.entry.spare ≡ 1 = ap turns_left c.if-not-spare.false in
@@ -170,18 +170,18 @@ entry-preserved g c =
     let v = r.shows c.apply_next.new.replica in
     let w = r.shows c.open_again.new.replica in
     let plays = subst (λ x. Plays x b v new) c.in-Ok-Broken.field-0-is e.plays in
-    let found = found_state t.holds r.state r.spells new v (saved_in w) e.follows up.found in
-    let near = found_near t.holds r.state r.spells new v (saved_in w) e.follows up.found in
+    let found = found_state t.holds r.meaning new v (saved_in w) e.follows up.found in
+    let near = found_near t.holds r.meaning new v (saved_in w) e.follows up.found in
     record {
       later = later_trans p.law first now new i.later e.later;
       who = e.who ∙ i.who;
       known = e.known ∙ i.known;
-      follows = follows_reopened t.holds r.state r.spells new 0 v w e.follows up c.in-Ok.ensures.survives;
+      follows = follows_reopened t.holds r.meaning new 0 v w e.follows up c.in-Ok.ensures.survives;
       bounded = known_reopened 0 (t.reaches c.apply_next.new.log) v w e.bounded up;
       forward = omega (arith, i.forward, e.forward, found.forward);
-      went = goes_after p.law t.holds r.state r.spells g.met.L.SharedLog.stays new new (saved_in a) (saved_in v) (saved_in w) (later_refl p.law new e.later.legal)
-          (goes_after p.law t.holds r.state r.spells g.met.L.SharedLog.stays now new (saved_in a) (saved_in b) (saved_in v) e.later i.went e.goes_on)
-          (goes_found t.holds r.state r.spells new v (saved_in w) e.follows up.found);
+      went = goes_after p.law t.holds r.meaning g.met.L.SharedLog.stays new new (saved_in a) (saved_in v) (saved_in w) (later_refl p.law new e.later.legal)
+          (goes_after p.law t.holds r.meaning g.met.L.SharedLog.stays now new (saved_in a) (saved_in b) (saved_in v) e.later i.went e.goes_on)
+          (goes_found t.holds r.meaning new v (saved_in w) e.follows up.found);
       below = inr (omega (arith, near, plays.0, c.cursor.ensures.cursor, c.entry-test.true));
       counts = omega (arith, i.counts, plays.1, up.faults);
       up = λ h. up.up;
@@ -191,9 +191,9 @@ entry-preserved g c =
       origin = up.origin ∙ (e.origin ∙ i.origin);
       quiet = keeps_on p.law (t.who c.args.log.now) (r.shows c.args.replica.now).cursor first now new i.later e.later (r.shows l.replica).cursor i.forward i.quiet
           (subst (λ w. KeepsTail w (r.shows l.replica).cursor now new) i.who e.quiet);
-      any_crash = crash_on p.law t.holds r.state r.spells g.met.L.SharedLog.stays new new a v w (later_refl p.law new e.later.legal) (omega (arith, i.forward, e.forward))
-          (crash_on p.law t.holds r.state r.spells g.met.L.SharedLog.stays now new a b v e.later i.forward i.any_crash e.any_crash)
-          (crash_in_reopen t.holds r.state r.spells new v w e.follows c.in-Ok.ensures.any_crash);
+      any_crash = crash_on p.law t.holds r.meaning g.met.L.SharedLog.stays new new a v w (later_refl p.law new e.later.legal) (omega (arith, i.forward, e.forward))
+          (crash_on p.law t.holds r.meaning g.met.L.SharedLog.stays now new a b v e.later i.forward i.any_crash e.any_crash)
+          (crash_in_reopen t.holds r.meaning new v w e.follows c.in-Ok.ensures.any_crash);
     }
 
 pub returns-in-Ok-Trimmed-clause-arming : goal.returns-in-Ok-Trimmed-clause-arming
@@ -252,7 +252,7 @@ returns-in-Ok-Trimmed-clause-goes_on g c =
     let r = g.R.Replica in
     let l = c.entry in
     let e = c.in-Ok-Trimmed.ensures in
-    goes_after p.law t.holds r.state r.spells g.met.L.SharedLog.stays (t.seen l.log) (t.seen c.apply_next.new.log) (saved_in (r.shows c.args.replica.now)) (saved_in (r.shows l.replica)) (saved_in (r.shows c.apply_next.new.replica)) e.later l.invariant.went e.goes_on
+    goes_after p.law t.holds r.meaning g.met.L.SharedLog.stays (t.seen l.log) (t.seen c.apply_next.new.log) (saved_in (r.shows c.args.replica.now)) (saved_in (r.shows l.replica)) (saved_in (r.shows c.apply_next.new.replica)) e.later l.invariant.went e.goes_on
 
 pub returns-then-not-spare-clause-goes_on : goal.returns-then-not-spare-clause-goes_on
 returns-then-not-spare-clause-goes_on g c =
@@ -261,7 +261,7 @@ returns-then-not-spare-clause-goes_on g c =
     let r = g.R.Replica in
     let l = c.entry in
     let e = c.in-Ok-Broken.ensures in
-    goes_after p.law t.holds r.state r.spells g.met.L.SharedLog.stays (t.seen l.log) (t.seen c.apply_next.new.log) (saved_in (r.shows c.args.replica.now)) (saved_in (r.shows l.replica)) (saved_in (r.shows c.apply_next.new.replica)) e.later l.invariant.went e.goes_on
+    goes_after p.law t.holds r.meaning g.met.L.SharedLog.stays (t.seen l.log) (t.seen c.apply_next.new.log) (saved_in (r.shows c.args.replica.now)) (saved_in (r.shows l.replica)) (saved_in (r.shows c.apply_next.new.replica)) e.later l.invariant.went e.goes_on
 
 pub returns-in-Err-clause-goes_on : goal.returns-in-Err-clause-goes_on
 returns-in-Err-clause-goes_on g c =
@@ -270,7 +270,7 @@ returns-in-Err-clause-goes_on g c =
     let r = g.R.Replica in
     let l = c.entry in
     let e = c.in-Err.ensures in
-    goes_after p.law t.holds r.state r.spells g.met.L.SharedLog.stays (t.seen l.log) (t.seen c.apply_next.new.log) (saved_in (r.shows c.args.replica.now)) (saved_in (r.shows l.replica)) (saved_in (r.shows c.apply_next.new.replica)) e.later l.invariant.went e.goes_on
+    goes_after p.law t.holds r.meaning g.met.L.SharedLog.stays (t.seen l.log) (t.seen c.apply_next.new.log) (saved_in (r.shows c.args.replica.now)) (saved_in (r.shows l.replica)) (saved_in (r.shows c.apply_next.new.replica)) e.later l.invariant.went e.goes_on
 
 pub returns-in-Err-open_again-clause-goes_on : goal.returns-in-Err-open_again-clause-goes_on
 returns-in-Err-open_again-clause-goes_on g c =
@@ -280,5 +280,5 @@ returns-in-Err-open_again-clause-goes_on g c =
     let l = c.entry in
     let e = c.in-Ok-Broken.ensures in
     let a = saved_in (r.shows c.args.replica.now) in
-    subst (λ s. GoesOn t.holds r.state (t.seen c.apply_next.new.log) a s) (sym (ap saved_in c.in-Err-open_again.ensures.down.is))
-    (goes_after p.law t.holds r.state r.spells g.met.L.SharedLog.stays (t.seen l.log) (t.seen c.apply_next.new.log) a (saved_in (r.shows l.replica)) (saved_in (r.shows c.apply_next.new.replica)) e.later l.invariant.went e.goes_on)
+    subst (λ s. GoesOn t.holds r.meaning.state (t.seen c.apply_next.new.log) a s) (sym (ap saved_in c.in-Err-open_again.ensures.down.is))
+    (goes_after p.law t.holds r.meaning g.met.L.SharedLog.stays (t.seen l.log) (t.seen c.apply_next.new.log) a (saved_in (r.shows l.replica)) (saved_in (r.shows c.apply_next.new.replica)) e.later l.invariant.went e.goes_on)

@@ -19,10 +19,10 @@ invariant-entry g l =
       later : Later p.law (t.seen l.fn.log) (t.seen l.log);
       who : t.who l.log ≡ t.who l.fn.log;
       known : t.reaches l.log ≡ t.reaches l.fn.log;
-      follows : Follows t.holds r.state r.spells (t.seen l.log) v;
+      follows : Follows t.holds r.meaning (t.seen l.log) v;
       bounded : IsKnown (t.reaches l.log) v;
       forward : w.cursor ≤ v.cursor;
-      went : GoesOn t.holds r.state (t.seen l.log) (saved_in w) (saved_in v);
+      went : GoesOn t.holds r.meaning.state (t.seen l.log) (saved_in w) (saved_in v);
       below : (v.cursor ≡ w.cursor) ⊎ (v.cursor ≤ l.to);
       counts : w.faults ≤ v.faults;
       up : l.spare ≡ false → v.down ≡ false;
@@ -31,7 +31,7 @@ invariant-entry g l =
       kept : v.kept ≡ w.kept;
       origin : v.origin ≡ w.origin;
       quiet : KeepsTail (t.who l.fn.log) w.cursor (t.seen l.fn.log) (t.seen l.log);
-      any_crash : AnyCrash w.disk v.disk (SpellsOne r.spells (IsFound t.holds r.state (t.seen l.log) w.cursor));
+      any_crash : AnyCrash w.disk v.disk (SpellsOne r.meaning.spells (IsFound t.holds r.meaning.state (t.seen l.log) w.cursor));
     }
 
 abbrev pub decreases-entry : goal.decreases-entry

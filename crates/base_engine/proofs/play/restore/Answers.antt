@@ -10,7 +10,7 @@ returns-in-Ok-clause-follows g c =
     let seen = t.seen c.args._log.now in
     let v = r.shows c.args.replica.now in
     let w = r.shows c.recover.new.replica in
-    follows_reopened t.holds r.state r.spells seen c.args.word v w c.requires.follows c.in-Ok.ensures.up c.in-Ok.ensures.survives
+    follows_reopened t.holds r.meaning seen c.args.word v w c.requires.follows c.in-Ok.ensures.up c.in-Ok.ensures.survives
 
 pub returns-in-Ok-clause-bounded : goal.returns-in-Ok-clause-bounded
 returns-in-Ok-clause-bounded g c =
@@ -28,7 +28,7 @@ returns-in-Ok-clause-forward g c =
     let seen = t.seen c.args._log.now in
     let v = r.shows c.args.replica.now in
     let w = r.shows c.recover.new.replica in
-    (found_state t.holds r.state r.spells seen v (saved_in w) c.requires.follows c.in-Ok.ensures.up.found).forward
+    (found_state t.holds r.meaning seen v (saved_in w) c.requires.follows c.in-Ok.ensures.up.found).forward
 
 pub returns-in-Ok-clause-near : goal.returns-in-Ok-clause-near
 returns-in-Ok-clause-near g c =
@@ -37,7 +37,7 @@ returns-in-Ok-clause-near g c =
     let seen = t.seen c.args._log.now in
     let v = r.shows c.args.replica.now in
     let w = r.shows c.recover.new.replica in
-    found_near t.holds r.state r.spells seen v (saved_in w) c.requires.follows c.in-Ok.ensures.up.found
+    found_near t.holds r.meaning seen v (saved_in w) c.requires.follows c.in-Ok.ensures.up.found
 
 pub returns-in-Ok-clause-any_crash : goal.returns-in-Ok-clause-any_crash
 returns-in-Ok-clause-any_crash g c =
@@ -46,7 +46,7 @@ returns-in-Ok-clause-any_crash g c =
     let seen = t.seen c.args._log.now in
     let v = r.shows c.args.replica.now in
     let w = r.shows c.recover.new.replica in
-    crash_in_reopen t.holds r.state r.spells seen v w c.requires.follows c.in-Ok.ensures.any_crash
+    crash_in_reopen t.holds r.meaning seen v w c.requires.follows c.in-Ok.ensures.any_crash
 
 pub returns-in-Err-clause-follows : goal.returns-in-Err-clause-follows
 returns-in-Err-clause-follows g c =
@@ -56,7 +56,7 @@ returns-in-Err-clause-follows g c =
     let v = r.shows c.args.replica.now in
     let w = r.shows c.recover.new.replica in
     let d = c.in-Err.ensures.down in
-    follows_same t.holds r.state r.spells seen v w c.requires.follows (ap saved_in d.is) (ap (λ (x : ReplicaView). x.asked) d.is) c.in-Err.ensures.survives
+    follows_same t.holds r.meaning seen v w c.requires.follows (ap saved_in d.is) (ap (λ (x : ReplicaView). x.asked) d.is) c.in-Err.ensures.survives
 
 pub returns-in-Err-clause-bounded : goal.returns-in-Err-clause-bounded
 returns-in-Err-clause-bounded g c =
@@ -75,16 +75,16 @@ returns-in-Err-clause-any_crash g c =
     let seen = t.seen c.args._log.now in
     let v = r.shows c.args.replica.now in
     let w = r.shows c.recover.new.replica in
-    crash_in_reopen t.holds r.state r.spells seen v w c.requires.follows c.in-Err.ensures.any_crash
+    crash_in_reopen t.holds r.meaning seen v w c.requires.follows c.in-Err.ensures.any_crash
 
 pub returns-in-Ok-clause-goes_on : goal.returns-in-Ok-clause-goes_on
 returns-in-Ok-clause-goes_on g c =
     let t = g.L.SharedLog in
     let r = g.R.Replica in
-    goes_found t.holds r.state r.spells (t.seen c.args._log.now) (r.shows c.args.replica.now) (saved_in (r.shows c.recover.new.replica)) c.requires.follows c.in-Ok.ensures.up.found
+    goes_found t.holds r.meaning (t.seen c.args._log.now) (r.shows c.args.replica.now) (saved_in (r.shows c.recover.new.replica)) c.requires.follows c.in-Ok.ensures.up.found
 
 pub returns-in-Err-clause-goes_on : goal.returns-in-Err-clause-goes_on
 returns-in-Err-clause-goes_on g c =
     let t = g.L.SharedLog in
     let r = g.R.Replica in
-    goes_none t.holds r.state r.spells (t.seen c.args._log.now) (saved_in (r.shows c.args.replica.now)) (saved_in (r.shows c.recover.new.replica)) (ap saved_in c.in-Err.ensures.down.is)
+    goes_none t.holds r.meaning (t.seen c.args._log.now) (saved_in (r.shows c.args.replica.now)) (saved_in (r.shows c.recover.new.replica)) (ap saved_in c.in-Err.ensures.down.is)

@@ -14,7 +14,7 @@ returns-in-Err-clause-follows g c =
     let p = g.L.Law.Rules in
     let t = g.L.SharedLog in
     let r = g.R.Replica in
-    follows_later p.law t.holds r.state r.spells g.met.L.SharedLog.stays _ (t.seen c.check_tail.new.self) (r.shows c.args.replica.now) c.in-Err.ensures.later c.requires.follows
+    follows_later p.law t.holds r.meaning g.met.L.SharedLog.stays _ (t.seen c.check_tail.new.self) (r.shows c.args.replica.now) c.in-Err.ensures.later c.requires.follows
 
 pub returns-in-Err-clause-any_crash : goal.returns-in-Err-clause-any_crash
 returns-in-Err-clause-any_crash g c =
@@ -23,14 +23,14 @@ returns-in-Err-clause-any_crash g c =
     let r = g.R.Replica in
     let new = t.seen c.check_tail.new.self in
     let v = r.shows c.args.replica.now in
-    crash_at_rest t.holds r.state r.spells new v (follows_later p.law t.holds r.state r.spells g.met.L.SharedLog.stays _ new v c.in-Err.ensures.later c.requires.follows)
+    crash_at_rest t.holds r.meaning new v (follows_later p.law t.holds r.meaning g.met.L.SharedLog.stays _ new v c.in-Err.ensures.later c.requires.follows)
 
 pub play-requires-clause-follows : goal.play-requires-clause-follows
 play-requires-clause-follows g c =
     let p = g.L.Law.Rules in
     let t = g.L.SharedLog in
     let r = g.R.Replica in
-    follows_later p.law t.holds r.state r.spells g.met.L.SharedLog.stays _ (t.seen c.check_tail.new.self) (r.shows c.args.replica.now) c.in-Ok.ensures.later c.requires.follows
+    follows_later p.law t.holds r.meaning g.met.L.SharedLog.stays _ (t.seen c.check_tail.new.self) (r.shows c.args.replica.now) c.in-Ok.ensures.later c.requires.follows
 
 pub returns-in-Ok-play-clause-synced : goal.returns-in-Ok-play-clause-synced
 returns-in-Ok-play-clause-synced g c =
@@ -69,7 +69,7 @@ returns-in-Err-clause-goes_on g c =
     let t = g.L.SharedLog in
     let r = g.R.Replica in
     let s = saved_in (r.shows c.args.replica.now) in
-    goes_none t.holds r.state r.spells (t.seen c.check_tail.new.self) s s refl
+    goes_none t.holds r.meaning (t.seen c.check_tail.new.self) s s refl
 
 pub returns-in-Err-play-clause-blames : goal.returns-in-Err-play-clause-blames
 returns-in-Err-play-clause-blames g c =

@@ -15,7 +15,7 @@ returns-in_err-carry_all-clause-follows g c =
     let t = g.L.SharedLog in
     let r = g.R.Replica in
     let v = r.shows c.args.replica.now in
-    follows_later p.law t.holds r.state r.spells g.met.L.SharedLog.stays _ (t.seen c.carry_all.new.log) v c.carry_all.ensures.later c.requires.follows
+    follows_later p.law t.holds r.meaning g.met.L.SharedLog.stays _ (t.seen c.carry_all.new.log) v c.carry_all.ensures.later c.requires.follows
 
 pub returns-in_err-carry_all-clause-any_crash : goal.returns-in_err-carry_all-clause-any_crash
 returns-in_err-carry_all-clause-any_crash g c =
@@ -23,7 +23,7 @@ returns-in_err-carry_all-clause-any_crash g c =
     let t = g.L.SharedLog in
     let r = g.R.Replica in
     let v = r.shows c.args.replica.now in
-    crash_at_rest t.holds r.state r.spells (t.seen c.carry_all.new.log) v (follows_later p.law t.holds r.state r.spells g.met.L.SharedLog.stays _ (t.seen c.carry_all.new.log) v c.carry_all.ensures.later c.requires.follows)
+    crash_at_rest t.holds r.meaning (t.seen c.carry_all.new.log) v (follows_later p.law t.holds r.meaning g.met.L.SharedLog.stays _ (t.seen c.carry_all.new.log) v c.carry_all.ensures.later c.requires.follows)
 
 pub returns-in_err-sessions-clause-follows : goal.returns-in_err-sessions-clause-follows
 returns-in_err-sessions-clause-follows g c =
@@ -31,7 +31,7 @@ returns-in_err-sessions-clause-follows g c =
     let t = g.L.SharedLog in
     let r = g.R.Replica in
     let v = r.shows c.args.replica.now in
-    follows_later p.law t.holds r.state r.spells g.met.L.SharedLog.stays _ (t.seen c.carry_all.new.log) v c.carry_all.ensures.later c.requires.follows
+    follows_later p.law t.holds r.meaning g.met.L.SharedLog.stays _ (t.seen c.carry_all.new.log) v c.carry_all.ensures.later c.requires.follows
 
 pub returns-in_err-sessions-clause-any_crash : goal.returns-in_err-sessions-clause-any_crash
 returns-in_err-sessions-clause-any_crash g c =
@@ -39,7 +39,7 @@ returns-in_err-sessions-clause-any_crash g c =
     let t = g.L.SharedLog in
     let r = g.R.Replica in
     let v = r.shows c.args.replica.now in
-    crash_at_rest t.holds r.state r.spells (t.seen c.carry_all.new.log) v (follows_later p.law t.holds r.state r.spells g.met.L.SharedLog.stays _ (t.seen c.carry_all.new.log) v c.carry_all.ensures.later c.requires.follows)
+    crash_at_rest t.holds r.meaning (t.seen c.carry_all.new.log) v (follows_later p.law t.holds r.meaning g.met.L.SharedLog.stays _ (t.seen c.carry_all.new.log) v c.carry_all.ensures.later c.requires.follows)
 
 pub returns-in_err-reserve-clause-follows : goal.returns-in_err-reserve-clause-follows
 returns-in_err-reserve-clause-follows g c =
@@ -47,7 +47,7 @@ returns-in_err-reserve-clause-follows g c =
     let t = g.L.SharedLog in
     let r = g.R.Replica in
     let v = r.shows c.args.replica.now in
-    follows_later p.law t.holds r.state r.spells g.met.L.SharedLog.stays _ (t.seen c.carry_all.new.log) v c.carry_all.ensures.later c.requires.follows
+    follows_later p.law t.holds r.meaning g.met.L.SharedLog.stays _ (t.seen c.carry_all.new.log) v c.carry_all.ensures.later c.requires.follows
 
 pub returns-in_err-reserve-clause-any_crash : goal.returns-in_err-reserve-clause-any_crash
 returns-in_err-reserve-clause-any_crash g c =
@@ -55,7 +55,7 @@ returns-in_err-reserve-clause-any_crash g c =
     let t = g.L.SharedLog in
     let r = g.R.Replica in
     let v = r.shows c.args.replica.now in
-    crash_at_rest t.holds r.state r.spells (t.seen c.carry_all.new.log) v (follows_later p.law t.holds r.state r.spells g.met.L.SharedLog.stays _ (t.seen c.carry_all.new.log) v c.carry_all.ensures.later c.requires.follows)
+    crash_at_rest t.holds r.meaning (t.seen c.carry_all.new.log) v (follows_later p.law t.holds r.meaning g.met.L.SharedLog.stays _ (t.seen c.carry_all.new.log) v c.carry_all.ensures.later c.requires.follows)
 
 pub sync-requires-clause-follows : goal.sync-requires-clause-follows
 sync-requires-clause-follows g c =
@@ -63,7 +63,7 @@ sync-requires-clause-follows g c =
     let t = g.L.SharedLog in
     let r = g.R.Replica in
     let v = r.shows c.args.replica.now in
-    follows_later p.law t.holds r.state r.spells g.met.L.SharedLog.stays _ (t.seen c.carry_all.new.log) v c.carry_all.ensures.later c.requires.follows
+    follows_later p.law t.holds r.meaning g.met.L.SharedLog.stays _ (t.seen c.carry_all.new.log) v c.carry_all.ensures.later c.requires.follows
 
 pub returns-in-Ok-clause-caught : goal.returns-in-Ok-clause-caught
 returns-in-Ok-clause-caught g c =

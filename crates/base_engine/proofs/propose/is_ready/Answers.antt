@@ -13,19 +13,19 @@ pub returns-in_default-clause-any_crash : goal.returns-in_default-clause-any_cra
 returns-in_default-clause-any_crash g c =
     let t = g.L.SharedLog in
     let r = g.R.Replica in
-    crash_at_rest t.holds r.state r.spells (t.seen c.args.log.now) (r.shows c.args.replica.now) c.requires.follows
+    crash_at_rest t.holds r.meaning (t.seen c.args.log.now) (r.shows c.args.replica.now) c.requires.follows
 
 pub returns-in-Err-clause-any_crash : goal.returns-in-Err-clause-any_crash
 returns-in-Err-clause-any_crash g c =
     let t = g.L.SharedLog in
     let r = g.R.Replica in
-    crash_at_rest t.holds r.state r.spells (t.seen c.args.log.now) (r.shows c.args.replica.now) c.requires.follows
+    crash_at_rest t.holds r.meaning (t.seen c.args.log.now) (r.shows c.args.replica.now) c.requires.follows
 
 pub returns-then-near-clause-any_crash : goal.returns-then-near-clause-any_crash
 returns-then-near-clause-any_crash g c =
     let t = g.L.SharedLog in
     let r = g.R.Replica in
-    crash_at_rest t.holds r.state r.spells (t.seen c.args.log.now) (r.shows c.args.replica.now) c.requires.follows
+    crash_at_rest t.holds r.meaning (t.seen c.args.log.now) (r.shows c.args.replica.now) c.requires.follows
 
 pub returns-in-Err-clause-refused : goal.returns-in-Err-clause-refused
 returns-in-Err-clause-refused g c =

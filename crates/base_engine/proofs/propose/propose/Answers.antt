@@ -55,7 +55,7 @@ returns-in-Ok-send-clause-follows g c =
     let a = r.shows c.args.replica.now in
     let v = r.shows c.is_ready.new.replica in
     let e = c.in-Ok.ensures in
-    follows_rest p.law t.holds r.state r.spells g.met.L.SharedLog.stays mid (t.seen c.send.new.log) v (r.shows c.send.new.replica) c.send.ensures.later c.send.ensures.rest e.follows
+    follows_rest p.law t.holds r.meaning g.met.L.SharedLog.stays mid (t.seen c.send.new.log) v (r.shows c.send.new.replica) c.send.ensures.later c.send.ensures.rest e.follows
 
 pub returns-in-Ok-send-clause-bounded : goal.returns-in-Ok-send-clause-bounded
 returns-in-Ok-send-clause-bounded g c =
@@ -85,7 +85,7 @@ returns-in-Ok-send-clause-any_crash g c =
     let a = r.shows c.args.replica.now in
     let v = r.shows c.is_ready.new.replica in
     let e = c.in-Ok.ensures in
-    crash_rest p.law t.holds r.state r.spells g.met.L.SharedLog.stays mid (t.seen c.send.new.log) a v (r.shows c.send.new.replica) c.send.ensures.later c.send.ensures.rest e.any_crash
+    crash_rest p.law t.holds r.meaning g.met.L.SharedLog.stays mid (t.seen c.send.new.log) a v (r.shows c.send.new.replica) c.send.ensures.later c.send.ensures.rest e.any_crash
 
 pub returns-in-Err-send-clause-follows : goal.returns-in-Err-send-clause-follows
 returns-in-Err-send-clause-follows g c =
@@ -100,7 +100,7 @@ returns-in-Err-send-clause-follows g c =
     let a = r.shows c.args.replica.now in
     let v = r.shows c.is_ready.new.replica in
     let e = c.in-Ok.ensures in
-    follows_rest p.law t.holds r.state r.spells g.met.L.SharedLog.stays mid (t.seen c.send.new.log) v (r.shows c.send.new.replica) c.send.ensures.later c.send.ensures.rest e.follows
+    follows_rest p.law t.holds r.meaning g.met.L.SharedLog.stays mid (t.seen c.send.new.log) v (r.shows c.send.new.replica) c.send.ensures.later c.send.ensures.rest e.follows
 
 pub returns-in-Err-send-clause-bounded : goal.returns-in-Err-send-clause-bounded
 returns-in-Err-send-clause-bounded g c =
@@ -130,7 +130,7 @@ returns-in-Err-send-clause-any_crash g c =
     let a = r.shows c.args.replica.now in
     let v = r.shows c.is_ready.new.replica in
     let e = c.in-Ok.ensures in
-    crash_rest p.law t.holds r.state r.spells g.met.L.SharedLog.stays mid (t.seen c.send.new.log) a v (r.shows c.send.new.replica) c.send.ensures.later c.send.ensures.rest e.any_crash
+    crash_rest p.law t.holds r.meaning g.met.L.SharedLog.stays mid (t.seen c.send.new.log) a v (r.shows c.send.new.replica) c.send.ensures.later c.send.ensures.rest e.any_crash
 
 pub returns-in-Ok-send-clause-proposed : goal.returns-in-Ok-send-clause-proposed
 returns-in-Ok-send-clause-proposed g c =

@@ -11,5 +11,5 @@ returns g c r who known known' early late legal le ok =
     let t = g.L.SharedLog in
     let s = g.R.Replica in
     let on : Later p.law early (early ++ late) = record { more = late; seen = refl; legal = legal } in
-    ok_same p.law t.holds s.state s.spells (awake r who early known) (awake r who (early ++ late) known') ok legal refl
-    (follows_later p.law t.holds s.state s.spells g.met.L.SharedLog.stays early (early ++ late) r.replica on ok.follows) (known_more known known' r.replica le ok.bounded) refl refl refl refl
+    ok_same p.law t.holds s.meaning (awake r who early known) (awake r who (early ++ late) known') ok legal refl
+    (follows_later p.law t.holds s.meaning g.met.L.SharedLog.stays early (early ++ late) r.replica on ok.follows) (known_more known known' r.replica le ok.bounded) refl refl refl refl

@@ -14,14 +14,14 @@ returns-in-Err-flush-clause-follows g c =
     let p = g.L.Law.Rules in
     let t = g.L.SharedLog in
     let r = g.R.Replica in
-    follows_rest p.law t.holds r.state r.spells g.met.L.SharedLog.stays (t.seen c.propose.new.log) (t.seen c.flush.new.log) (r.shows c.propose.new.replica) (r.shows c.flush.new.replica) c.flush.ensures.later c.flush.ensures.rest c.propose.ensures.follows
+    follows_rest p.law t.holds r.meaning g.met.L.SharedLog.stays (t.seen c.propose.new.log) (t.seen c.flush.new.log) (r.shows c.propose.new.replica) (r.shows c.flush.new.replica) c.flush.ensures.later c.flush.ensures.rest c.propose.ensures.follows
 
 pub returns-in-Err-flush-clause-any_crash : goal.returns-in-Err-flush-clause-any_crash
 returns-in-Err-flush-clause-any_crash g c =
     let p = g.L.Law.Rules in
     let t = g.L.SharedLog in
     let r = g.R.Replica in
-    crash_rest p.law t.holds r.state r.spells g.met.L.SharedLog.stays (t.seen c.propose.new.log) (t.seen c.flush.new.log) (r.shows c.args.replica.now) (r.shows c.propose.new.replica) (r.shows c.flush.new.replica) c.flush.ensures.later c.flush.ensures.rest c.propose.ensures.any_crash
+    crash_rest p.law t.holds r.meaning g.met.L.SharedLog.stays (t.seen c.propose.new.log) (t.seen c.flush.new.log) (r.shows c.args.replica.now) (r.shows c.propose.new.replica) (r.shows c.flush.new.replica) c.flush.ensures.later c.flush.ensures.rest c.propose.ensures.any_crash
 
 pub returns-in-Ok-settle_all-clause-follows : goal.returns-in-Ok-settle_all-clause-follows
 returns-in-Ok-settle_all-clause-follows g c =
@@ -29,7 +29,7 @@ returns-in-Ok-settle_all-clause-follows g c =
     let t = g.L.SharedLog in
     let r = g.R.Replica in
     let on = later_trans p.law (t.seen c.propose.new.log) (t.seen c.flush.new.log) (t.seen c.settle_all.new.log) c.flush.ensures.later c.settle_all.ensures.later in
-    follows_rest p.law t.holds r.state r.spells g.met.L.SharedLog.stays (t.seen c.propose.new.log) (t.seen c.settle_all.new.log) (r.shows c.propose.new.replica) (r.shows c.flush.new.replica) on c.flush.ensures.rest c.propose.ensures.follows
+    follows_rest p.law t.holds r.meaning g.met.L.SharedLog.stays (t.seen c.propose.new.log) (t.seen c.settle_all.new.log) (r.shows c.propose.new.replica) (r.shows c.flush.new.replica) on c.flush.ensures.rest c.propose.ensures.follows
 
 pub returns-in-Ok-settle_all-clause-any_crash : goal.returns-in-Ok-settle_all-clause-any_crash
 returns-in-Ok-settle_all-clause-any_crash g c =
@@ -37,7 +37,7 @@ returns-in-Ok-settle_all-clause-any_crash g c =
     let t = g.L.SharedLog in
     let r = g.R.Replica in
     let on = later_trans p.law (t.seen c.propose.new.log) (t.seen c.flush.new.log) (t.seen c.settle_all.new.log) c.flush.ensures.later c.settle_all.ensures.later in
-    crash_rest p.law t.holds r.state r.spells g.met.L.SharedLog.stays (t.seen c.propose.new.log) (t.seen c.settle_all.new.log) (r.shows c.args.replica.now) (r.shows c.propose.new.replica) (r.shows c.flush.new.replica) on c.flush.ensures.rest c.propose.ensures.any_crash
+    crash_rest p.law t.holds r.meaning g.met.L.SharedLog.stays (t.seen c.propose.new.log) (t.seen c.settle_all.new.log) (r.shows c.args.replica.now) (r.shows c.propose.new.replica) (r.shows c.flush.new.replica) on c.flush.ensures.rest c.propose.ensures.any_crash
 
 pub returns-in-Err-settle_all-clause-follows : goal.returns-in-Err-settle_all-clause-follows
 returns-in-Err-settle_all-clause-follows g c =
@@ -45,7 +45,7 @@ returns-in-Err-settle_all-clause-follows g c =
     let t = g.L.SharedLog in
     let r = g.R.Replica in
     let on = later_trans p.law (t.seen c.propose.new.log) (t.seen c.flush.new.log) (t.seen c.settle_all.new.log) c.flush.ensures.later c.settle_all.ensures.later in
-    follows_rest p.law t.holds r.state r.spells g.met.L.SharedLog.stays (t.seen c.propose.new.log) (t.seen c.settle_all.new.log) (r.shows c.propose.new.replica) (r.shows c.flush.new.replica) on c.flush.ensures.rest c.propose.ensures.follows
+    follows_rest p.law t.holds r.meaning g.met.L.SharedLog.stays (t.seen c.propose.new.log) (t.seen c.settle_all.new.log) (r.shows c.propose.new.replica) (r.shows c.flush.new.replica) on c.flush.ensures.rest c.propose.ensures.follows
 
 pub returns-in-Err-settle_all-clause-any_crash : goal.returns-in-Err-settle_all-clause-any_crash
 returns-in-Err-settle_all-clause-any_crash g c =
@@ -53,7 +53,7 @@ returns-in-Err-settle_all-clause-any_crash g c =
     let t = g.L.SharedLog in
     let r = g.R.Replica in
     let on = later_trans p.law (t.seen c.propose.new.log) (t.seen c.flush.new.log) (t.seen c.settle_all.new.log) c.flush.ensures.later c.settle_all.ensures.later in
-    crash_rest p.law t.holds r.state r.spells g.met.L.SharedLog.stays (t.seen c.propose.new.log) (t.seen c.settle_all.new.log) (r.shows c.args.replica.now) (r.shows c.propose.new.replica) (r.shows c.flush.new.replica) on c.flush.ensures.rest c.propose.ensures.any_crash
+    crash_rest p.law t.holds r.meaning g.met.L.SharedLog.stays (t.seen c.propose.new.log) (t.seen c.settle_all.new.log) (r.shows c.args.replica.now) (r.shows c.propose.new.replica) (r.shows c.flush.new.replica) on c.flush.ensures.rest c.propose.ensures.any_crash
 
 pub returns-in-Ok-settle_all-clause-landed : goal.returns-in-Ok-settle_all-clause-landed
 returns-in-Ok-settle_all-clause-landed g c =

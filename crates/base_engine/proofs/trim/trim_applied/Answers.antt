@@ -18,7 +18,7 @@ prefix_trim-requires-clause-free g c =
     let r = g.R.Replica in
     let seen = t.seen c.args.log.now in
     subst (λ n. IsFree (state_of seen).shown p.law.floor n) (sym c.in-Ok.ensures)
-    (free_to p.law t.holds seen c.requires.legal c.requires.shown r.state r.spells c.args.nodes (r.shows c.args.replica.now) c.requires.follows c.requires.free)
+    (free_to p.law t.holds seen c.requires.legal c.requires.shown r.meaning c.args.nodes (r.shows c.args.replica.now) c.requires.follows c.requires.free)
 
 pub returns-in-Ok-prefix_trim-clause-trims : goal.returns-in-Ok-prefix_trim-clause-trims
 returns-in-Ok-prefix_trim-clause-trims g c =

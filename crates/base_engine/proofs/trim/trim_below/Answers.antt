@@ -15,7 +15,7 @@ pub trim_applied-requires-clause-free : goal.trim_applied-requires-clause-free
 trim_applied-requires-clause-free g c =
     let p = g.L.Law.Rules in
     let r = g.R.Replica in
-    floor_applied p.law g.L.SharedLog.holds (g.L.SharedLog.seen c.play.new.log) c.play.ensures.later.legal c.requires.shown r.state r.spells c.args.nodes (r.shows c.play.new.replica) c.play.ensures.follows c.requires.floor
+    floor_applied p.law g.L.SharedLog.holds (g.L.SharedLog.seen c.play.new.log) c.play.ensures.later.legal c.requires.shown r.meaning c.args.nodes (r.shows c.play.new.replica) c.play.ensures.follows c.requires.floor
 
 pub returns-in-Err-trim_applied-clause-later : goal.returns-in-Err-trim_applied-clause-later
 returns-in-Err-trim_applied-clause-later g c =
@@ -27,14 +27,14 @@ returns-in-Ok-trim_applied-clause-follows g c =
     let p = g.L.Law.Rules in
     let t = g.L.SharedLog in
     let r = g.R.Replica in
-    follows_later p.law t.holds r.state r.spells g.met.L.SharedLog.stays (t.seen c.play.new.log) (t.seen c.trim_applied.new.log) (r.shows c.play.new.replica) c.trim_applied.ensures.later c.play.ensures.follows
+    follows_later p.law t.holds r.meaning g.met.L.SharedLog.stays (t.seen c.play.new.log) (t.seen c.trim_applied.new.log) (r.shows c.play.new.replica) c.trim_applied.ensures.later c.play.ensures.follows
 
 pub returns-in-Err-trim_applied-clause-follows : goal.returns-in-Err-trim_applied-clause-follows
 returns-in-Err-trim_applied-clause-follows g c =
     let p = g.L.Law.Rules in
     let t = g.L.SharedLog in
     let r = g.R.Replica in
-    follows_later p.law t.holds r.state r.spells g.met.L.SharedLog.stays (t.seen c.play.new.log) (t.seen c.trim_applied.new.log) (r.shows c.play.new.replica) c.trim_applied.ensures.later c.play.ensures.follows
+    follows_later p.law t.holds r.meaning g.met.L.SharedLog.stays (t.seen c.play.new.log) (t.seen c.trim_applied.new.log) (r.shows c.play.new.replica) c.trim_applied.ensures.later c.play.ensures.follows
 
 pub returns-in-Ok-trim_applied-clause-any_crash : goal.returns-in-Ok-trim_applied-clause-any_crash
 returns-in-Ok-trim_applied-clause-any_crash g c =
@@ -43,8 +43,8 @@ returns-in-Ok-trim_applied-clause-any_crash g c =
     let r = g.R.Replica in
     let v = r.shows c.play.new.replica in
     let new = t.seen c.trim_applied.new.log in
-    crash_on p.law t.holds r.state r.spells g.met.L.SharedLog.stays (t.seen c.play.new.log) new (r.shows c.args.replica.now) v v c.trim_applied.ensures.later c.play.ensures.forward c.play.ensures.any_crash
-    (crash_at_rest t.holds r.state r.spells new v (follows_later p.law t.holds r.state r.spells g.met.L.SharedLog.stays (t.seen c.play.new.log) new v c.trim_applied.ensures.later c.play.ensures.follows))
+    crash_on p.law t.holds r.meaning g.met.L.SharedLog.stays (t.seen c.play.new.log) new (r.shows c.args.replica.now) v v c.trim_applied.ensures.later c.play.ensures.forward c.play.ensures.any_crash
+    (crash_at_rest t.holds r.meaning new v (follows_later p.law t.holds r.meaning g.met.L.SharedLog.stays (t.seen c.play.new.log) new v c.trim_applied.ensures.later c.play.ensures.follows))
 
 pub returns-in-Err-trim_applied-clause-any_crash : goal.returns-in-Err-trim_applied-clause-any_crash
 returns-in-Err-trim_applied-clause-any_crash g c =
@@ -53,8 +53,8 @@ returns-in-Err-trim_applied-clause-any_crash g c =
     let r = g.R.Replica in
     let v = r.shows c.play.new.replica in
     let new = t.seen c.trim_applied.new.log in
-    crash_on p.law t.holds r.state r.spells g.met.L.SharedLog.stays (t.seen c.play.new.log) new (r.shows c.args.replica.now) v v c.trim_applied.ensures.later c.play.ensures.forward c.play.ensures.any_crash
-    (crash_at_rest t.holds r.state r.spells new v (follows_later p.law t.holds r.state r.spells g.met.L.SharedLog.stays (t.seen c.play.new.log) new v c.trim_applied.ensures.later c.play.ensures.follows))
+    crash_on p.law t.holds r.meaning g.met.L.SharedLog.stays (t.seen c.play.new.log) new (r.shows c.args.replica.now) v v c.trim_applied.ensures.later c.play.ensures.forward c.play.ensures.any_crash
+    (crash_at_rest t.holds r.meaning new v (follows_later p.law t.holds r.meaning g.met.L.SharedLog.stays (t.seen c.play.new.log) new v c.trim_applied.ensures.later c.play.ensures.follows))
 
 pub returns-in-Ok-trim_applied-clause-trims : goal.returns-in-Ok-trim_applied-clause-trims
 returns-in-Ok-trim_applied-clause-trims g c =

@@ -59,7 +59,7 @@ returns-in-Err-push_through-clause-any_crash g c =
     let p = g.L.Law.Rules in
     let t = g.L.SharedLog in
     let r = g.R.Replica in
-    crash_on p.law t.holds r.state r.spells g.met.L.SharedLog.stays (t.seen c.find_least.new.log) (t.seen c.push_through.new.log) (r.shows c.args.replica.now) (r.shows c.find_least.new.replica) (r.shows c.push_through.new.replica)
+    crash_on p.law t.holds r.meaning g.met.L.SharedLog.stays (t.seen c.find_least.new.log) (t.seen c.push_through.new.log) (r.shows c.args.replica.now) (r.shows c.find_least.new.replica) (r.shows c.push_through.new.replica)
     c.push_through.ensures.later c.find_least.ensures.forward c.find_least.ensures.any_crash c.push_through.ensures.any_crash
 
 pub returns-in-Ok-trim_below-clause-any_crash : goal.returns-in-Ok-trim_below-clause-any_crash
@@ -70,9 +70,9 @@ returns-in-Ok-trim_below-clause-any_crash g c =
     let a = r.shows c.args.replica.now in
     let v = r.shows c.find_least.new.replica in
     let u = r.shows c.push_through.new.replica in
-    let first = crash_on p.law t.holds r.state r.spells g.met.L.SharedLog.stays (t.seen c.find_least.new.log) (t.seen c.push_through.new.log) a v u
+    let first = crash_on p.law t.holds r.meaning g.met.L.SharedLog.stays (t.seen c.find_least.new.log) (t.seen c.push_through.new.log) a v u
     c.push_through.ensures.later c.find_least.ensures.forward c.find_least.ensures.any_crash c.push_through.ensures.any_crash in
-    crash_on p.law t.holds r.state r.spells g.met.L.SharedLog.stays (t.seen c.push_through.new.log) (t.seen c.trim_below.new.log) a u (r.shows c.trim_below.new.replica)
+    crash_on p.law t.holds r.meaning g.met.L.SharedLog.stays (t.seen c.push_through.new.log) (t.seen c.trim_below.new.log) a u (r.shows c.trim_below.new.replica)
     c.trim_below.ensures.later (omega (arith, c.find_least.ensures.forward, c.push_through.ensures.forward)) first c.trim_below.ensures.any_crash
 
 pub returns-in-Err-trim_below-clause-any_crash : goal.returns-in-Err-trim_below-clause-any_crash
@@ -83,9 +83,9 @@ returns-in-Err-trim_below-clause-any_crash g c =
     let a = r.shows c.args.replica.now in
     let v = r.shows c.find_least.new.replica in
     let u = r.shows c.push_through.new.replica in
-    let first = crash_on p.law t.holds r.state r.spells g.met.L.SharedLog.stays (t.seen c.find_least.new.log) (t.seen c.push_through.new.log) a v u
+    let first = crash_on p.law t.holds r.meaning g.met.L.SharedLog.stays (t.seen c.find_least.new.log) (t.seen c.push_through.new.log) a v u
     c.push_through.ensures.later c.find_least.ensures.forward c.find_least.ensures.any_crash c.push_through.ensures.any_crash in
-    crash_on p.law t.holds r.state r.spells g.met.L.SharedLog.stays (t.seen c.push_through.new.log) (t.seen c.trim_below.new.log) a u (r.shows c.trim_below.new.replica)
+    crash_on p.law t.holds r.meaning g.met.L.SharedLog.stays (t.seen c.push_through.new.log) (t.seen c.trim_below.new.log) a u (r.shows c.trim_below.new.replica)
     c.trim_below.ensures.later (omega (arith, c.find_least.ensures.forward, c.push_through.ensures.forward)) first c.trim_below.ensures.any_crash
 
 pub returns-in-Ok-trim_below-clause-trims : goal.returns-in-Ok-trim_below-clause-trims

@@ -19,7 +19,7 @@ pub seat_all-workers-requires-clause-fresh : goal.seat_all-workers-requires-clau
 seat_all-workers-requires-clause-fresh g c =
     let r = g.S.Replica in
     let same = shown_same (λ b. b.replica) (λ n. n.replica) r.shows c.in-Ok-prepare_all.berths.items c.args.nodes.now.items c.in-Ok-prepare_all.ensures.replicas in
-    subst (AreFreshFrom r.state r.spells 1) (sym same) (fresh_from r.state r.spells (λ n. r.shows n.replica) 1 c.args.nodes.now.items c.requires.nodes)
+    subst (AreFreshFrom r.meaning 1) (sym same) (fresh_from r.meaning (λ n. r.shows n.replica) 1 c.args.nodes.now.items c.requires.nodes)
 
 pub seat_all-workers-requires-clause-room : goal.seat_all-workers-requires-clause-room
 seat_all-workers-requires-clause-room g c =
@@ -34,18 +34,18 @@ returns-in-Ok-new-clause-rests g c =
     let q = c.seat_all-workers in
     let size = as_long (λ b. b.replica) (λ n. n.replica) c.in-Ok-prepare_all.berths.items a.nodes.now.items c.in-Ok-prepare_all.ensures.replicas in
     let size' = as_long (λ w. w.seat.node.replica) (λ b. r.shows b.replica) q.result.items c.in-Ok-prepare_all.berths.items q.ensures.replicas in
-    subst (λ j. CrewRests p.law r.state r.spells a.lines.now 0 0 j c.in-Ok.looks.items (λ w. w.seat) (λ w. w.desks.items) q.result.items) (sym (ap (λ (f : FabricView). f.journal) c.in-Ok-new.ensures.ok))
-    (crew_rests p.law a.lines.now c.in-Ok.looks.items c.in-Ok.ensures.size c.in-Ok.ensures.none r.state r.spells c.requires.lines.0 (λ w. w.seat) (λ w. w.desks.items) q.result.items
+    subst (λ j. CrewRests p.law r.meaning a.lines.now 0 0 j c.in-Ok.looks.items (λ w. w.seat) (λ w. w.desks.items) q.result.items) (sym (ap (λ (f : FabricView). f.journal) c.in-Ok-new.ensures.ok))
+    (crew_rests p.law a.lines.now c.in-Ok.looks.items c.in-Ok.ensures.size c.in-Ok.ensures.none r.meaning c.requires.lines.0 (λ w. w.seat) (λ w. w.desks.items) q.result.items
     (subst (AreLines a.lines.now c.requires.lines.0) (sym (size' ∙ size)) c.requires.lines.1)
-    (subst (λ k. AreNewWorkers (λ who. record p.law { may = Sends who p.law.may [] [] }) r.state r.spells k (λ w. w.seat) (λ w. w.desks.items) q.result.items) (sym size') q.ensures.workers))
+    (subst (λ k. AreNewWorkers (λ who. record p.law { may = Sends who p.law.may [] [] }) r.meaning k (λ w. w.seat) (λ w. w.desks.items) q.result.items) (sym size') q.ensures.workers))
 
 pub returns-in-Ok-new-clause-stands : goal.returns-in-Ok-new-clause-stands
 returns-in-Ok-new-clause-stands g c =
     let p = g.K.Terms in
     let r = g.S.Replica in
     let q = c.seat_all-workers in
-    subst (λ j. CrewStands p.law r.state r.spells j (λ w. w.seat) q.result.items) (sym (ap (λ (f : FabricView). f.journal) c.in-Ok-new.ensures.ok))
-    (new_stands p.law r.state r.spells (length c.in-Ok-prepare_all.berths.items) (λ w. w.seat) (λ w. w.desks.items) q.result.items q.ensures.workers)
+    subst (λ j. CrewStands p.law r.meaning j (λ w. w.seat) q.result.items) (sym (ap (λ (f : FabricView). f.journal) c.in-Ok-new.ensures.ok))
+    (new_stands p.law r.meaning (length c.in-Ok-prepare_all.berths.items) (λ w. w.seat) (λ w. w.desks.items) q.result.items q.ensures.workers)
 
 pub returns-in-Ok-new-clause-replicas : goal.returns-in-Ok-new-clause-replicas
 returns-in-Ok-new-clause-replicas g c =

@@ -21,13 +21,13 @@ loop-k-preserved g c =
     record {
       logs = (subst (AllByRecursion (λ b. IsFreshLog (length p.law.shelf) b.log)) is l.invariant.logs).1;
       desks = desks.1;
-      fresh = (subst (λ x. AreFreshFrom r.state r.spells (l.k + 1) (map (λ b. r.shows b.replica) x)) is l.invariant.fresh).1;
+      fresh = (subst (λ x. AreFreshFrom r.meaning (l.k + 1) (map (λ b. r.shows b.replica) x)) is l.invariant.fresh).1;
       left = grind (arith, l.invariant.left, c.remove-replica.ensures.len);
       done = grind (arith, l.invariant.done, c.push_reserved.ensures.len);
       room = grind (arith, l.invariant.room, c.push_reserved.ensures.capacity);
-      workers = λ j w at. each_push (λ j w. IsNewWorker (record p.law { may = Sends (j + 1) p.law.may [] [] }) r.state r.spells c.len-nodes.result (j + 1) w.seat w.desks.items) l.workers.items (record { seat = q.result; desks = b.desks }) l.invariant.workers
+      workers = λ j w at. each_push (λ j w. IsNewWorker (record p.law { may = Sends (j + 1) p.law.may [] [] }) r.meaning c.len-nodes.result (j + 1) w.seat w.desks.items) l.workers.items (record { seat = q.result; desks = b.desks }) l.invariant.workers
           (record {
-            waits = subst (λ k. IsNewSeat (record p.law { may = Sends k p.law.may [] [] }) r.state r.spells c.len-nodes.result k q.result) who q.ensures.seat;
+            waits = subst (λ k. IsNewSeat (record p.law { may = Sends k p.law.may [] [] }) r.meaning c.len-nodes.result k q.result) who q.ensures.seat;
             desks_are = desks.0;
           }) j w (ap (λ x. slice_get x j) (sym c.push_reserved.ensures.items) ∙ at);
       same = ap (λ x. map (λ w. w.seat.node.replica) x ++ map (λ b. r.shows b.replica) c.remove-replica.new.self.items) c.push_reserved.ensures.items
@@ -40,7 +40,7 @@ returns-clause-workers g c =
     let r = g.S.Replica in
     let l = c.loop-k in
     let size : c.len-nodes.result ≡ length c.args.berths.items = grind (arith, c.len-nodes.ensures) in
-    subst (λ n. AreNewWorkers (λ n. record p.law { may = Sends n p.law.may [] [] }) r.state r.spells n (λ w. w.seat) (λ w. w.desks.items) l.workers.items) size l.invariant.workers
+    subst (λ n. AreNewWorkers (λ n. record p.law { may = Sends n p.law.may [] [] }) r.meaning n (λ w. w.seat) (λ w. w.desks.items) l.workers.items) size l.invariant.workers
 
 pub returns-clause-replicas : goal.returns-clause-replicas
 returns-clause-replicas g c =

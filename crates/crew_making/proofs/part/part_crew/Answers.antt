@@ -29,7 +29,7 @@ loop-workers-preserved g c =
       journal = q.ensures.seen ∙ l.invariant.journal;
       same = ap (λ x. map (λ n. r.shows n.replica) x ++ map (λ w. w.seat.node.replica) c.remove-seat.new.self.items) c.push_reserved.ensures.items
           ∙ goes_over (λ n. r.shows n.replica) (λ w. w.seat.node.replica) l.nodes.items l.workers.items c.remove-seat.new.self.items q.result.node w (map (λ w. w.seat.node.replica) c.args.crew.workers.items) q.ensures.replica is l.invariant.same;
-      stands = λ j x at. subst (λ e. SeatOk p.law r.state r.spells e x.seat) (sym q.ensures.seen)
+      stands = λ j x at. subst (λ e. SeatOk p.law r.meaning e x.seat) (sym q.ensures.seen)
           (l.invariant.stands (j + 1) x (next_is l.workers.items c.remove-seat.new.self.items w x j is at));
     }
 

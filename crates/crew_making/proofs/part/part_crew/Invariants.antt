@@ -8,7 +8,7 @@ invariant-loop-workers g l = record {
   room : length l.workers.items + length l.nodes.items ≤ vec_capacity l.nodes;
   journal : l.fabric.journal ≡ l.fn.crew.fabric.journal;
   same : map (λ n. g.S.Replica.shows n.replica) l.nodes.items ++ map (λ w. w.seat.node.replica) l.workers.items ≡ map (λ w. w.seat.node.replica) l.initial.workers.items;
-  stands : CrewStands g.K.Terms.law g.S.Replica.state g.S.Replica.spells l.fabric.journal (λ w. w.seat) l.workers.items;
+  stands : CrewStands g.K.Terms.law g.S.Replica.meaning l.fabric.journal (λ w. w.seat) l.workers.items;
 }
 
 abbrev pub decreases-loop-workers : goal.decreases-loop-workers

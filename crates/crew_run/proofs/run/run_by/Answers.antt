@@ -11,7 +11,7 @@ tell-crew-requires-clause-eight g c =
     omega (arith, size, c.requires.eight)
 
 pub tell-crew-requires-clause-floor : goal.tell-crew-requires-clause-floor
-tell-crew-requires-clause-floor g c =
+tell-crew-requires-clause-floor g c κs within =
     let size = as_many (λ w. w.seat.node.replica) (λ n. g.S.Replica.shows n.replica) c.in-Ok.crew.workers.items c.args.nodes.items c.in-Ok.ensures.replicas in
     subst (FloorIs g.K.Terms.law.floor) (sym size) c.requires.floor
 

@@ -44,7 +44,7 @@ returns-in-Ok-Ok-clause-told g c =
     let asks = on_ok _ c.in-Ok-Ok.is-0 q.ensures.asks in
     let last = in_ok _ c.in-Ok-Ok.is-0 q.ensures.last in
     let legal = q.ensures.legal in
-    let closed = subst (λ l. HasClosed p.law r.state r.spells lines l w.looks.items h.0 ends) (sym asks.seen)
+    let closed = subst (λ l. HasClosed p.law r.meaning lines l w.looks.items h.0 ends) (sym asks.seen)
     (c.reads_change_nothing.ensures lines early asks.more w.looks.items h.0 ends h.2 (own_more 0 early new q.ensures.since asks) (reads_asked asks.more asks.calls) (subst (λ l. IsLegal p.law l) asks.seen legal)) in
     let rows = in_ok _ c.in-Ok-Ok.is-1 c.rows_of-rows.ensures.rows in
     let rows' = subst (λ l. AreRows lines (map (λ x. record { seat = x.seat; desks = x.desks.items }) l) w.looks.items c.in-Ok-Ok.rows) c.as_slice.ensures.value (subst (λ l. AreRows lines (map (λ x. record { seat = x.seat; desks = x.desks.items }) c.as_slice.result.now) l c.in-Ok-Ok.rows) c.as_slice-2.ensures.value rows) in
@@ -72,11 +72,11 @@ returns-in-Ok-Ok-clause-stands g c =
     let p = g.K.Terms in
     let r = g.S.Replica in
     let q = c.read_last-fabric in
-    stands_on p.law r.state r.spells 0 c.args.crew.fabric.journal q.result.fabric.journal (λ x. x.seat) c.args.crew.workers.items q.ensures.since q.ensures.legal c.requires.stands
+    stands_on p.law r.meaning 0 c.args.crew.fabric.journal q.result.fabric.journal (λ x. x.seat) c.args.crew.workers.items q.ensures.since q.ensures.legal c.requires.stands
 
 pub returns-in_default-clause-stands : goal.returns-in_default-clause-stands
 returns-in_default-clause-stands g c =
     let p = g.K.Terms in
     let r = g.S.Replica in
     let q = c.read_last-fabric in
-    stands_on p.law r.state r.spells 0 c.args.crew.fabric.journal q.result.fabric.journal (λ x. x.seat) c.args.crew.workers.items q.ensures.since q.ensures.legal c.requires.stands
+    stands_on p.law r.meaning 0 c.args.crew.fabric.journal q.result.fabric.journal (λ x. x.seat) c.args.crew.workers.items q.ensures.since q.ensures.legal c.requires.stands

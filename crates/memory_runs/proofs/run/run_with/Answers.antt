@@ -3,19 +3,17 @@ use Rattle.std.proofs.lemmas.List.{length-map}
 use Rattle.script_runner.specs.Standing.{HasEnded}
 use Rattle.memory_runs.proofs.run.run_with.Goals as goal
 
-pub run_plan-end-requires : goal.run_plan-end-requires
-run_plan-end-requires g c = record {
-  fresh = λ plan planned. (
-    c.requires.sound plan planned,
-    record {
-      as_many = length-map c.args.shelf.items g.L.Loglet.view ∙ c.requires.loglets plan planned;
-      nodes = c.requires.as_many plan planned;
-      fresh = c.requires.shelf;
-      register_is = c.in_ok-register.ensures;
-      parts_are = c.requires.nodes;
-    },
-  );
-}
+pub run_plan-end-requires-clause-fresh : goal.run_plan-end-requires-clause-fresh
+run_plan-end-requires-clause-fresh g c κs within = λ plan planned. (
+  c.requires.sound plan planned,
+  record {
+    as_many = length-map c.args.shelf.items g.L.Loglet.view ∙ c.requires.loglets plan planned;
+    nodes = c.requires.as_many plan planned;
+    fresh = c.requires.shelf;
+    register_is = c.in_ok-register.ensures;
+    parts_are = c.requires.nodes;
+  },
+)
 
 -- the nodes' faults are those of the disks that were taken
 pub returns-clause-ended : goal.returns-clause-ended

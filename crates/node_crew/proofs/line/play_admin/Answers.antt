@@ -15,7 +15,9 @@ use Rattle.node_course.proofs.Reporting.{line_reported}
 use Rattle.node_course.proofs.Leaving.{line_left}
 use Rattle.node_course.proofs.Trimming.{line_trimmed}
 use Rattle.node_crew.specs.Turns.{CanEnd}
-use Rattle.node_crew.proofs.Playing.{kept_by, left_still, keeps_set}
+use Rattle.node_crew.specs.Notes.{noted}
+use Rattle.node_crew.proofs.Notes.{noted_push}
+use Rattle.node_crew.proofs.Playing.{kept_by, left_still}
 use Rattle.node_crew.proofs.Ok.{on_ok}
 use Rattle.node_workers.proofs.Ok.{in_ok}
 use Rattle.node_crew.proofs.line.play_admin.Goals as goal
@@ -24,42 +26,37 @@ pub extend_line-looked-requires-clause-kept : goal.extend_line-looked-requires-c
 extend_line-looked-requires-clause-kept g c = kept_by c.requires.floor c.requires.number c.requires.can
 
 pub returns-in-Extend-clause-goes : goal.returns-in-Extend-clause-goes
-returns-in-Extend-clause-goes g c = λ lines home nodes course from at phase u.
+returns-in-Extend-clause-goes g c = λ lines home nodes course from base at phase u.
     let p = g.A.Law.Rules in
     let r = g.S.Replica in
     let w = c.args.worker in
-    let looks = c.args.looks.now.items in
+    let looks = noted base c.args.notes.now.items in
     let q = c.extend_line-looked in
     let k = c.keep_look in
     let new = g.A.Access.seen q.result.access in
     let seat = q.result.part.seat in
     let same = q.ensures.desks in
-    on_ok k.result.answer k.ensures.looks (λ kept.
+    on_ok k.result.answer k.ensures.notes (λ kept.
     let look = kept.0 in
-    let now : WorkerOk p.law r.state r.spells w.seat.who new seat w.desks.items = subst (λ ds. WorkerOk p.law r.state r.spells w.seat.who new seat ds.items) same (in_ok _ kept.1 q.ensures.worker) in
-    let went = line_extended p.law r.state r.spells c.requires.run lines home nodes course looks w.seat.who from c.args.i c.args.line.now look w.seat seat w.desks.items new
+    let now : WorkerOk p.law r.meaning w.seat.who new seat w.desks.items = subst (λ ds. WorkerOk p.law r.meaning w.seat.who new seat ds.items) same (in_ok _ kept.1 q.ensures.worker) in
+    let went = line_extended p.law r.meaning c.requires.run lines home nodes course looks w.seat.who from c.args.i c.args.line.now look w.seat seat w.desks.items new
     u.lines_are at c.requires.node phase (c.requires.asked ∙ ap (λ a. asks.Admin a) c.in-Extend.is) u.node
     (subst (λ j. OwnAdds w.seat.who IsOfSessions j new) (sym u.seen_is) (in_ok _ kept.1 q.ensures.adds))
     (subst (λ j. Extends (record p.law { may = OwnWithin w.seat.who p.law.may (sent_by w.desks.items) }) (node_of w.seat j) (node_of seat new) look) (sym u.seen_is) (in_ok _ kept.1 q.ensures.extends)) now in
-    subst (λ l. LineWent p.law r.state r.spells lines home nodes course l w.seat.who from (c.args.i + 1) (g.A.Access.seen k.result.access) k.result.part.seat k.result.part.desks.items) (sym kept.2)
-    (subst (λ x. LineWent p.law r.state r.spells lines home nodes course (slice_set looks c.args.i (Some look)) w.seat.who from (c.args.i + 1) (g.A.Access.seen k.result.access) x.seat x.desks.items) (sym k.ensures.part)
-    (subst (λ f. LineWent p.law r.state r.spells lines home nodes course (slice_set looks c.args.i (Some look)) w.seat.who from (c.args.i + 1) (g.A.Access.seen f) seat q.result.part.desks.items) (sym k.ensures.access)
-    (subst (λ ds. LineWent p.law r.state r.spells lines home nodes course (slice_set looks c.args.i (Some look)) w.seat.who from (c.args.i + 1) new seat ds.items) (sym same) went))))
+    subst (λ l. LineWent p.law r.meaning lines home nodes course l w.seat.who from (c.args.i + 1) (g.A.Access.seen k.result.access) k.result.part.seat k.result.part.desks.items) (sym (ap (noted base) kept.2 ∙ noted_push base c.args.notes.now.items (record { line = c.args.i; look = look })))
+    (subst (λ x. LineWent p.law r.meaning lines home nodes course (slice_set looks c.args.i (Some look)) w.seat.who from (c.args.i + 1) (g.A.Access.seen k.result.access) x.seat x.desks.items) (sym k.ensures.part)
+    (subst (λ f. LineWent p.law r.meaning lines home nodes course (slice_set looks c.args.i (Some look)) w.seat.who from (c.args.i + 1) (g.A.Access.seen f) seat q.result.part.desks.items) (sym k.ensures.access)
+    (subst (λ ds. LineWent p.law r.meaning lines home nodes course (slice_set looks c.args.i (Some look)) w.seat.who from (c.args.i + 1) new seat ds.items) (sym same) went))))
 
 pub returns-in-Extend-clause-ends : goal.returns-in-Extend-clause-ends
 returns-in-Extend-clause-ends g c =
     let p = g.A.Law.Rules in
     let q = c.extend_line-looked in
     let k = c.keep_look in
-    on_ok k.result.answer k.ensures.looks (λ kept.
+    on_ok k.result.answer k.ensures.notes (λ kept.
     subst (λ x. CanEnd g.A.Access.beside p.law.floor (g.A.Access.seen k.result.access) x.seat x.desks.items) (sym k.ensures.part)
     (subst (λ f. CanEnd g.A.Access.beside p.law.floor (g.A.Access.seen f) q.result.part.seat q.result.part.desks.items) (sym k.ensures.access)
     (inl (in_ok _ kept.1 q.ensures.kept))))
-
-pub returns-in-Extend-clause-keeps : goal.returns-in-Extend-clause-keeps
-returns-in-Extend-clause-keeps g c =
-    let k = c.keep_look in
-    on_ok k.result.answer k.ensures.looks (λ kept. keeps_set c.args.i (Some kept.0) c.args.looks.now.items k.new.looks.items kept.2)
 
 pub returns-in-Extend-clause-since : goal.returns-in-Extend-clause-since
 returns-in-Extend-clause-since g c = subst (λ x. Since c.args.worker.seat.who (g.A.Access.beside c.args.worker.seat.who) (g.A.Access.seen c.args.access) (g.A.Access.seen x)) (sym c.keep_look.ensures.access) c.extend_line-looked.ensures.left.since
@@ -77,43 +74,38 @@ pub report_line-looked-requires-clause-kept : goal.report_line-looked-requires-c
 report_line-looked-requires-clause-kept g c = kept_by c.requires.floor c.requires.number c.requires.can
 
 pub returns-in-Alive-clause-goes : goal.returns-in-Alive-clause-goes
-returns-in-Alive-clause-goes g c = λ lines home nodes course from at phase u.
+returns-in-Alive-clause-goes g c = λ lines home nodes course from base at phase u.
     let p = g.A.Law.Rules in
     let r = g.S.Replica in
     let w = c.args.worker in
-    let looks = c.args.looks.now.items in
+    let looks = noted base c.args.notes.now.items in
     let q = c.report_line-looked in
     let k = c.keep_look-in-Alive in
     let new = g.A.Access.seen q.result.access in
     let seat = q.result.part.seat in
     let same = q.ensures.desks in
-    on_ok k.result.answer k.ensures.looks (λ kept.
+    on_ok k.result.answer k.ensures.notes (λ kept.
     let look = kept.0 in
-    let now : WorkerOk p.law r.state r.spells w.seat.who new seat w.desks.items = subst (λ ds. WorkerOk p.law r.state r.spells w.seat.who new seat ds.items) same (in_ok _ kept.1 q.ensures.worker) in
-    let went = line_reported p.law r.state r.spells c.requires.run lines home nodes course looks w.seat.who from c.args.i c.args.line.now look w.seat seat w.desks.items new
+    let now : WorkerOk p.law r.meaning w.seat.who new seat w.desks.items = subst (λ ds. WorkerOk p.law r.meaning w.seat.who new seat ds.items) same (in_ok _ kept.1 q.ensures.worker) in
+    let went = line_reported p.law r.meaning c.requires.run lines home nodes course looks w.seat.who from c.args.i c.args.line.now look w.seat seat w.desks.items new
     u.lines_are at c.requires.node phase (c.requires.asked ∙ ap (λ a. asks.Admin a) c.in-Alive.is) u.node
     (subst (λ j. SealsNone w.seat.who j new) (sym u.seen_is) (left_still q.ensures.left))
     (subst (λ j. ReportAdds w.seat.who seat.node.replica.cursor j new look) (sym u.seen_is) (in_ok _ kept.1 q.ensures.adds))
     (subst (λ j. Reports (record p.law { may = OwnWithin w.seat.who p.law.may (sent_by w.desks.items) }) (node_of w.seat j) (node_of seat new) look) (sym u.seen_is) (in_ok _ kept.1 q.ensures.reports)) now in
-    subst (λ l. LineWent p.law r.state r.spells lines home nodes course l w.seat.who from (c.args.i + 1) (g.A.Access.seen k.result.access) k.result.part.seat k.result.part.desks.items) (sym kept.2)
-    (subst (λ x. LineWent p.law r.state r.spells lines home nodes course (slice_set looks c.args.i (Some look)) w.seat.who from (c.args.i + 1) (g.A.Access.seen k.result.access) x.seat x.desks.items) (sym k.ensures.part)
-    (subst (λ f. LineWent p.law r.state r.spells lines home nodes course (slice_set looks c.args.i (Some look)) w.seat.who from (c.args.i + 1) (g.A.Access.seen f) seat q.result.part.desks.items) (sym k.ensures.access)
-    (subst (λ ds. LineWent p.law r.state r.spells lines home nodes course (slice_set looks c.args.i (Some look)) w.seat.who from (c.args.i + 1) new seat ds.items) (sym same) went))))
+    subst (λ l. LineWent p.law r.meaning lines home nodes course l w.seat.who from (c.args.i + 1) (g.A.Access.seen k.result.access) k.result.part.seat k.result.part.desks.items) (sym (ap (noted base) kept.2 ∙ noted_push base c.args.notes.now.items (record { line = c.args.i; look = look })))
+    (subst (λ x. LineWent p.law r.meaning lines home nodes course (slice_set looks c.args.i (Some look)) w.seat.who from (c.args.i + 1) (g.A.Access.seen k.result.access) x.seat x.desks.items) (sym k.ensures.part)
+    (subst (λ f. LineWent p.law r.meaning lines home nodes course (slice_set looks c.args.i (Some look)) w.seat.who from (c.args.i + 1) (g.A.Access.seen f) seat q.result.part.desks.items) (sym k.ensures.access)
+    (subst (λ ds. LineWent p.law r.meaning lines home nodes course (slice_set looks c.args.i (Some look)) w.seat.who from (c.args.i + 1) new seat ds.items) (sym same) went))))
 
 pub returns-in-Alive-clause-ends : goal.returns-in-Alive-clause-ends
 returns-in-Alive-clause-ends g c =
     let p = g.A.Law.Rules in
     let q = c.report_line-looked in
     let k = c.keep_look-in-Alive in
-    on_ok k.result.answer k.ensures.looks (λ kept.
+    on_ok k.result.answer k.ensures.notes (λ kept.
     subst (λ x. CanEnd g.A.Access.beside p.law.floor (g.A.Access.seen k.result.access) x.seat x.desks.items) (sym k.ensures.part)
     (subst (λ f. CanEnd g.A.Access.beside p.law.floor (g.A.Access.seen f) q.result.part.seat q.result.part.desks.items) (sym k.ensures.access)
     (inl (in_ok _ kept.1 q.ensures.kept))))
-
-pub returns-in-Alive-clause-keeps : goal.returns-in-Alive-clause-keeps
-returns-in-Alive-clause-keeps g c =
-    let k = c.keep_look-in-Alive in
-    on_ok k.result.answer k.ensures.looks (λ kept. keeps_set c.args.i (Some kept.0) c.args.looks.now.items k.new.looks.items kept.2)
 
 pub returns-in-Alive-clause-since : goal.returns-in-Alive-clause-since
 returns-in-Alive-clause-since g c = subst (λ x. Since c.args.worker.seat.who (g.A.Access.beside c.args.worker.seat.who) (g.A.Access.seen c.args.access) (g.A.Access.seen x)) (sym c.keep_look-in-Alive.ensures.access) c.report_line-looked.ensures.left.since
@@ -131,41 +123,36 @@ pub leave_line-looked-requires-clause-kept : goal.leave_line-looked-requires-cla
 leave_line-looked-requires-clause-kept g c = kept_by c.requires.floor c.requires.number c.requires.can
 
 pub returns-in-Retire-clause-goes : goal.returns-in-Retire-clause-goes
-returns-in-Retire-clause-goes g c = λ lines home nodes course from at phase u.
+returns-in-Retire-clause-goes g c = λ lines home nodes course from base at phase u.
     let p = g.A.Law.Rules in
     let r = g.S.Replica in
     let w = c.args.worker in
-    let looks = c.args.looks.now.items in
+    let looks = noted base c.args.notes.now.items in
     let q = c.leave_line-looked in
     let k = c.keep_look-in-Retire in
     let new = g.A.Access.seen q.result.access in
     let seat = q.result.part.seat in
     let desks = q.result.part.desks.items in
-    on_ok k.result.answer k.ensures.looks (λ kept.
+    on_ok k.result.answer k.ensures.notes (λ kept.
     let look = kept.0 in
-    let went = line_left p.law r.state r.spells c.requires.run lines home nodes course looks w.seat.who from c.args.i c.args.line.now look w.seat seat w.desks.items desks (in_ok _ kept.1 q.ensures.desks) new
+    let went = line_left p.law r.meaning c.requires.run lines home nodes course looks w.seat.who from c.args.i c.args.line.now look w.seat seat w.desks.items desks (in_ok _ kept.1 q.ensures.desks) new
     u.lines_are at c.requires.node phase (c.requires.asked ∙ ap (λ a. asks.Admin a) c.in-Retire.is) u.node
     (subst (λ j. SealsNone w.seat.who j new) (sym u.seen_is) (left_still q.ensures.left))
     (subst (λ j. LeaveAdds w.seat.who j new) (sym u.seen_is) (in_ok _ kept.1 q.ensures.adds))
     (subst (λ j. Leaves (record p.law { may = OwnWithin w.seat.who p.law.may (sent_by w.desks.items) }) (node_of w.seat j) (node_of seat new) look) (sym u.seen_is) (in_ok _ kept.1 q.ensures.leaves)) (in_ok _ kept.1 q.ensures.worker) in
-    subst (λ l. LineWent p.law r.state r.spells lines home nodes course l w.seat.who from (c.args.i + 1) (g.A.Access.seen k.result.access) k.result.part.seat k.result.part.desks.items) (sym kept.2)
-    (subst (λ x. LineWent p.law r.state r.spells lines home nodes course (slice_set looks c.args.i (Some look)) w.seat.who from (c.args.i + 1) (g.A.Access.seen k.result.access) x.seat x.desks.items) (sym k.ensures.part)
-    (subst (λ f. LineWent p.law r.state r.spells lines home nodes course (slice_set looks c.args.i (Some look)) w.seat.who from (c.args.i + 1) (g.A.Access.seen f) seat desks) (sym k.ensures.access) went)))
+    subst (λ l. LineWent p.law r.meaning lines home nodes course l w.seat.who from (c.args.i + 1) (g.A.Access.seen k.result.access) k.result.part.seat k.result.part.desks.items) (sym (ap (noted base) kept.2 ∙ noted_push base c.args.notes.now.items (record { line = c.args.i; look = look })))
+    (subst (λ x. LineWent p.law r.meaning lines home nodes course (slice_set looks c.args.i (Some look)) w.seat.who from (c.args.i + 1) (g.A.Access.seen k.result.access) x.seat x.desks.items) (sym k.ensures.part)
+    (subst (λ f. LineWent p.law r.meaning lines home nodes course (slice_set looks c.args.i (Some look)) w.seat.who from (c.args.i + 1) (g.A.Access.seen f) seat desks) (sym k.ensures.access) went)))
 
 pub returns-in-Retire-clause-ends : goal.returns-in-Retire-clause-ends
 returns-in-Retire-clause-ends g c =
     let p = g.A.Law.Rules in
     let q = c.leave_line-looked in
     let k = c.keep_look-in-Retire in
-    on_ok k.result.answer k.ensures.looks (λ kept.
+    on_ok k.result.answer k.ensures.notes (λ kept.
     subst (λ x. CanEnd g.A.Access.beside p.law.floor (g.A.Access.seen k.result.access) x.seat x.desks.items) (sym k.ensures.part)
     (subst (λ f. CanEnd g.A.Access.beside p.law.floor (g.A.Access.seen f) q.result.part.seat q.result.part.desks.items) (sym k.ensures.access)
     (in_ok _ kept.1 q.ensures.stays)))
-
-pub returns-in-Retire-clause-keeps : goal.returns-in-Retire-clause-keeps
-returns-in-Retire-clause-keeps g c =
-    let k = c.keep_look-in-Retire in
-    on_ok k.result.answer k.ensures.looks (λ kept. keeps_set c.args.i (Some kept.0) c.args.looks.now.items k.new.looks.items kept.2)
 
 pub returns-in-Retire-clause-since : goal.returns-in-Retire-clause-since
 returns-in-Retire-clause-since g c = subst (λ x. Since c.args.worker.seat.who (g.A.Access.beside c.args.worker.seat.who) (g.A.Access.seen c.args.access) (g.A.Access.seen x)) (sym c.keep_look-in-Retire.ensures.access) c.leave_line-looked.ensures.left.since
@@ -183,43 +170,38 @@ pub trim_line-looked-requires-clause-kept : goal.trim_line-looked-requires-claus
 trim_line-looked-requires-clause-kept g c = kept_by c.requires.floor c.requires.number c.requires.can
 
 pub returns-in-Trim-clause-goes : goal.returns-in-Trim-clause-goes
-returns-in-Trim-clause-goes g c = λ lines home nodes course from at phase u.
+returns-in-Trim-clause-goes g c = λ lines home nodes course from base at phase u.
     let p = g.A.Law.Rules in
     let r = g.S.Replica in
     let w = c.args.worker in
-    let looks = c.args.looks.now.items in
+    let looks = noted base c.args.notes.now.items in
     let q = c.trim_line-looked in
     let k = c.keep_look-in-Trim in
     let new = g.A.Access.seen q.result.access in
     let seat = q.result.part.seat in
     let same = q.ensures.desks in
-    on_ok k.result.answer k.ensures.looks (λ kept.
+    on_ok k.result.answer k.ensures.notes (λ kept.
     let look = kept.0 in
-    let now : WorkerOk p.law r.state r.spells w.seat.who new seat w.desks.items = subst (λ ds. WorkerOk p.law r.state r.spells w.seat.who new seat ds.items) same (in_ok _ kept.1 q.ensures.worker) in
-    let went = line_trimmed p.law r.state r.spells c.requires.run lines home nodes course looks w.seat.who from c.args.i c.args.line.now look w.seat seat w.desks.items new
+    let now : WorkerOk p.law r.meaning w.seat.who new seat w.desks.items = subst (λ ds. WorkerOk p.law r.meaning w.seat.who new seat ds.items) same (in_ok _ kept.1 q.ensures.worker) in
+    let went = line_trimmed p.law r.meaning c.requires.run lines home nodes course looks w.seat.who from c.args.i c.args.line.now look w.seat seat w.desks.items new
     u.lines_are at c.requires.node phase (c.requires.asked ∙ ap (λ a. asks.Admin a) c.in-Trim.is) u.node
     (subst (λ j. SealsNone w.seat.who j new) (sym u.seen_is) (left_still q.ensures.left))
     (subst (λ j. TrimAdds w.seat.who j new) (sym u.seen_is) (in_ok _ kept.1 q.ensures.adds))
     (subst (λ j. TrimsLog (record p.law { may = OwnWithin w.seat.who p.law.may (sent_by w.desks.items) }) (node_of w.seat j) (node_of seat new) look) (sym u.seen_is) (in_ok _ kept.1 q.ensures.trims)) now in
-    subst (λ l. LineWent p.law r.state r.spells lines home nodes course l w.seat.who from (c.args.i + 1) (g.A.Access.seen k.result.access) k.result.part.seat k.result.part.desks.items) (sym kept.2)
-    (subst (λ x. LineWent p.law r.state r.spells lines home nodes course (slice_set looks c.args.i (Some look)) w.seat.who from (c.args.i + 1) (g.A.Access.seen k.result.access) x.seat x.desks.items) (sym k.ensures.part)
-    (subst (λ f. LineWent p.law r.state r.spells lines home nodes course (slice_set looks c.args.i (Some look)) w.seat.who from (c.args.i + 1) (g.A.Access.seen f) seat q.result.part.desks.items) (sym k.ensures.access)
-    (subst (λ ds. LineWent p.law r.state r.spells lines home nodes course (slice_set looks c.args.i (Some look)) w.seat.who from (c.args.i + 1) new seat ds.items) (sym same) went))))
+    subst (λ l. LineWent p.law r.meaning lines home nodes course l w.seat.who from (c.args.i + 1) (g.A.Access.seen k.result.access) k.result.part.seat k.result.part.desks.items) (sym (ap (noted base) kept.2 ∙ noted_push base c.args.notes.now.items (record { line = c.args.i; look = look })))
+    (subst (λ x. LineWent p.law r.meaning lines home nodes course (slice_set looks c.args.i (Some look)) w.seat.who from (c.args.i + 1) (g.A.Access.seen k.result.access) x.seat x.desks.items) (sym k.ensures.part)
+    (subst (λ f. LineWent p.law r.meaning lines home nodes course (slice_set looks c.args.i (Some look)) w.seat.who from (c.args.i + 1) (g.A.Access.seen f) seat q.result.part.desks.items) (sym k.ensures.access)
+    (subst (λ ds. LineWent p.law r.meaning lines home nodes course (slice_set looks c.args.i (Some look)) w.seat.who from (c.args.i + 1) new seat ds.items) (sym same) went))))
 
 pub returns-in-Trim-clause-ends : goal.returns-in-Trim-clause-ends
 returns-in-Trim-clause-ends g c =
     let p = g.A.Law.Rules in
     let q = c.trim_line-looked in
     let k = c.keep_look-in-Trim in
-    on_ok k.result.answer k.ensures.looks (λ kept.
+    on_ok k.result.answer k.ensures.notes (λ kept.
     subst (λ x. CanEnd g.A.Access.beside p.law.floor (g.A.Access.seen k.result.access) x.seat x.desks.items) (sym k.ensures.part)
     (subst (λ f. CanEnd g.A.Access.beside p.law.floor (g.A.Access.seen f) q.result.part.seat q.result.part.desks.items) (sym k.ensures.access)
     (inl (in_ok _ kept.1 q.ensures.kept))))
-
-pub returns-in-Trim-clause-keeps : goal.returns-in-Trim-clause-keeps
-returns-in-Trim-clause-keeps g c =
-    let k = c.keep_look-in-Trim in
-    on_ok k.result.answer k.ensures.looks (λ kept. keeps_set c.args.i (Some kept.0) c.args.looks.now.items k.new.looks.items kept.2)
 
 pub returns-in-Trim-clause-since : goal.returns-in-Trim-clause-since
 returns-in-Trim-clause-since g c = subst (λ x. Since c.args.worker.seat.who (g.A.Access.beside c.args.worker.seat.who) (g.A.Access.seen c.args.access) (g.A.Access.seen x)) (sym c.keep_look-in-Trim.ensures.access) c.trim_line-looked.ensures.left.since

@@ -1,9 +1,11 @@
-use Rattle.std.proofs.Common.{◌≡◌, ◌≤◌, ◌+◌, ℕ}
+use Rattle.std.proofs.Common.{◌≡◌, ◌≤◌, ◌+◌, ℕ, List, Option}
 use Rattle.turn_scopes.specs.Beside.{Since}
 use Rattle.node_course.specs.Script.{BeginsAt}
 use Rattle.node_course.specs.Moments.{NodeCourse}
 use Rattle.node_course.specs.Workers.{LineWent}
-use Rattle.node_crew.specs.Turns.{CanEnd, IsUnderWay, KeepsOthers}
+use Rattle.node_lines.specs.declared.lines.Looked.{Looked}
+use Rattle.node_crew.specs.Notes.{AreNotesOf, noted}
+use Rattle.node_crew.specs.Turns.{CanEnd, IsUnderWay}
 use Rattle.node_crew.proofs.turn.play_lines.Given as goal
 
 abbrev pub invariant-loop-i : goal.invariant-loop-i
@@ -13,9 +15,9 @@ invariant-loop-i g l = record {
   who : l.worker.seat.who ≡ l.node;
   whose : g.A.Access.who l.access ≡ l.node;
   since : Since l.initial.worker.seat.who (g.A.Access.beside l.initial.worker.seat.who) (g.A.Access.seen l.initial.access) (g.A.Access.seen l.access);
-  keeps : KeepsOthers l.lines l.node l.initial.looks.items l.looks.items;
+  own : AreNotesOf l.lines l.node l.notes.items;
   ends : CanEnd g.A.Access.beside g.A.Law.Rules.law.floor (g.A.Access.seen l.access) l.worker.seat l.worker.desks.items;
-  goes : (home : ℕ → ℕ) (nodes : ℕ) (c : NodeCourse)
-      → IsUnderWay g.A.Law.Rules.law g.S.Replica.state g.S.Replica.spells l.lines home nodes c l.initial.looks.items l.node l.fn.from l.fn.from (g.A.Access.seen l.initial.access) l.initial.worker.seat l.initial.worker.desks.items → BeginsAt l.lines l.fn.to (c.phase + 1)
-      → LineWent g.A.Law.Rules.law g.S.Replica.state g.S.Replica.spells l.lines home nodes c l.looks.items l.node l.fn.from l.i (g.A.Access.seen l.access) l.worker.seat l.worker.desks.items;
+  goes : (home : ℕ → ℕ) (nodes : ℕ) (c : NodeCourse) (looks : List (Option Looked))
+      → IsUnderWay g.A.Law.Rules.law g.S.Replica.meaning l.lines home nodes c (noted looks l.initial.notes.items) l.node l.fn.from l.fn.from (g.A.Access.seen l.initial.access) l.initial.worker.seat l.initial.worker.desks.items → BeginsAt l.lines l.fn.to (c.phase + 1)
+      → LineWent g.A.Law.Rules.law g.S.Replica.meaning l.lines home nodes c (noted looks l.notes.items) l.node l.fn.from l.i (g.A.Access.seen l.access) l.worker.seat l.worker.desks.items;
 }

@@ -9,6 +9,7 @@ use Rattle.node_course.specs.Script.{BeginsAt}
 use Rattle.node_course.specs.Workers.{Rests}
 use Rattle.node_course.proofs.Ending.{phase_ended}
 use Rattle.node_course.proofs.Joining.{goes_both}
+use Rattle.node_crew.specs.Notes.{noted}
 use Rattle.node_crew.proofs.Playing.{left_still}
 use Rattle.node_workers.proofs.Ok.{in_ok, on_ok}
 use Rattle.node_crew.proofs.turn.play_turn.Goals as goal
@@ -24,23 +25,24 @@ end_phase-worker-requires-clause-worker g c =
     let r = g.S.Replica in
     let a = c.args in
     let q = c.play_lines-worker in
-    let t = c.requires.playing in
+    let b = c.requires.playing.0 in
+    let t = c.requires.playing.1 in
     let who = q.ensures.who ∙ c.requires.node in
-    let w = on_ok _ c.in-Ok.is (q.ensures.goes t.home t.nodes t.course t.now t.ends) in
-    subst (λ k. WorkerOk p.law r.state r.spells k (g.A.Access.seen q.result.access) q.result.part.seat q.result.part.desks.items) (sym who)
-    (subst (λ j. WorkerOk p.law r.state r.spells a.node j q.result.part.seat q.result.part.desks.items) w.seen_is w.node.ok)
+    let w = on_ok _ c.in-Ok.is (q.ensures.goes t.home t.nodes t.course b t.now t.ends) in
+    subst (λ k. WorkerOk p.law r.meaning k (g.A.Access.seen q.result.access) q.result.part.seat q.result.part.desks.items) (sym who)
+    (subst (λ j. WorkerOk p.law r.meaning a.node j q.result.part.seat q.result.part.desks.items) w.seen_is w.node.ok)
 
 pub end_phase-worker-requires-clause-stays : goal.end_phase-worker-requires-clause-stays
 end_phase-worker-requires-clause-stays g c = on_ok _ c.in-Ok.is c.play_lines-worker.ensures.ends
 
 pub returns-in-Ok-answer-clause-goes : goal.returns-in-Ok-answer-clause-goes
-returns-in-Ok-answer-clause-goes g c = λ home nodes course u ends.
+returns-in-Ok-answer-clause-goes g c = λ home nodes course base u ends.
     let p = g.A.Law.Rules in
     let r = g.S.Replica in
     let a = c.args in
     let q = c.play_lines-worker in
     let e = c.end_phase-worker in
-    let looks = q.new.looks.items in
+    let looks = noted base q.new.notes.items in
     let seat = q.result.part.seat in
     let seat' = e.result.part.seat in
     let desks = q.result.part.desks.items in
@@ -48,23 +50,20 @@ returns-in-Ok-answer-clause-goes g c = λ home nodes course u ends.
     let mid = g.A.Access.seen q.result.access in
     let new = g.A.Access.seen e.result.access in
     let who = q.ensures.who ∙ c.requires.node in
-    let w = on_ok _ c.in-Ok.is (q.ensures.goes home nodes course u ends) in
+    let w = on_ok _ c.in-Ok.is (q.ensures.goes home nodes course base u ends) in
     let over = subst (λ n. BeginsAt a.lines.now a.to (n + 1)) (sym w.goes.phase) ends in
     let still = subst (λ j. SealsNone a.node j new) (sym w.seen_is) (subst (λ k. SealsNone k mid new) who (left_still e.ensures.left)) in
     let adds = subst (λ j. OwnAdds a.node IsOfSessions j new) (sym w.seen_is) (subst (λ k. OwnAdds k IsOfSessions mid new) who (in_ok _ c.in-Ok-answer.is e.ensures.adds)) in
     let does = subst (λ j. EndsTurn (record p.law { may = OwnWithin a.node p.law.may (sent_by desks) }) (node_of seat j) (node_of seat' new) desks desks' c.in-Ok-answer._failed) (sym w.seen_is)
     (subst (λ k. EndsTurn (record p.law { may = OwnWithin k p.law.may (sent_by desks) }) (node_of seat mid) (node_of seat' new) desks desks' c.in-Ok-answer._failed) who (in_ok _ c.in-Ok-answer.is e.ensures.ends)) in
-    let now = subst (λ k. WorkerOk p.law r.state r.spells k new seat' desks') who (in_ok _ c.in-Ok-answer.is e.ensures.worker) in
-    let t = phase_ended p.law r.state r.spells c.requires.run a.lines.now home nodes w.course looks a.node a.from a.to c.in-Ok-answer._failed seat seat' desks desks' new u.lines_are over w.node still adds does now in
+    let now = subst (λ k. WorkerOk p.law r.meaning k new seat' desks') who (in_ok _ c.in-Ok-answer.is e.ensures.worker) in
+    let t = phase_ended p.law r.meaning c.requires.run a.lines.now home nodes w.course looks a.node a.from a.to c.in-Ok-answer._failed seat seat' desks desks' new u.lines_are over w.node still adds does now in
     record {
       course = t.course;
       seen_is = t.seen_is;
       goes = goes_both course w.course t.course w.goes t.goes;
-      rests = subst (λ k. Rests p.law r.state r.spells a.lines.now home nodes t.course looks a.node a.to (k + 1) seat' desks') w.goes.phase t.rests;
+      rests = subst (λ k. Rests p.law r.meaning a.lines.now home nodes t.course looks a.node a.to (k + 1) seat' desks') w.goes.phase t.rests;
     }
-
-pub returns-in-Ok-answer-clause-keeps : goal.returns-in-Ok-answer-clause-keeps
-returns-in-Ok-answer-clause-keeps g c = on_ok _ c.in-Ok.is c.play_lines-worker.ensures.keeps
 
 pub returns-in-Ok-answer-clause-since : goal.returns-in-Ok-answer-clause-since
 returns-in-Ok-answer-clause-since g c =

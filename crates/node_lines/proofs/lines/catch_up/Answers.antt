@@ -44,7 +44,7 @@ returns-in-Ok-clause-caught g c =
           let sent : new.sent ≡ d.sent = ap (λ (x : Desk). x.sent) same in
           let before = none-before p.law c.requires.floor n m (failure_of synced) d.session all.goes none in
           let told = subst (λ (x : Desk). InFront m.seen m.replica.cursor (λ log. AreAllAnswers log x.session new.answers.items)) c.stop_where_failed.ensures c.in-Ok.ensures.acted in
-          let k = caught_near p.law c.requires.floor r.state n c.settle.new.node m d.session d.sent new.answers.items synced c.in_ok-settle.ensures.moves c.in_ok-settle.ensures.none settled.few
+          let k = caught_near p.law c.requires.floor r.meaning.state n c.settle.new.node m d.session d.sent new.answers.items synced c.in_ok-settle.ensures.moves c.in_ok-settle.ensures.none settled.few
           c.in_ok-synced.ensures.moves c.in_ok-synced.ensures.tail c.requires.keeps c.in_ok-synced.ensures.follows.now
           (subst (λ o. stopped_by synced o ≡ None) c.requires.free (sym (ap (λ (x : Desk). x.stopped) same) ∙ free.0))
           none (c.requires.desk.given c.requires.free before).1 told in
@@ -64,5 +64,5 @@ returns-in-Ok-clause-desk g c =
     let ok = desk_moves p.law c.requires.floor n m (failure_of synced) d.session d all c.requires.desk in
     let same : new ≡ record d { answers = new.answers; stopped = stopped_by synced d.stopped } = c.in-Ok.ensures.rest ∙ ap (λ (x : Desk). record x { answers = new.answers }) c.stop_where_failed.ensures in
     let told = subst (λ (x : Desk). InFront m.seen m.replica.cursor (λ log. AreAllAnswers log x.session new.answers.items)) c.stop_where_failed.ensures c.in-Ok.ensures.acted in
-    desk_collected p.law c.requires.floor r.state m d.session d new.answers.items new all.goes.keeps.later.legal c.in_ok-synced.ensures.follows.now ok told refl
+    desk_collected p.law c.requires.floor r.meaning.state m d.session d new.answers.items new all.goes.keeps.later.legal c.in_ok-synced.ensures.follows.now ok told refl
     (ap (λ (x : Desk). x.session) same) (ap (λ (x : Desk). x.asked) same) (ap (λ (x : Desk). x.sent) same) (λ none. c.requires.free) (λ none. ap (λ (x : Desk). x.answered) same)

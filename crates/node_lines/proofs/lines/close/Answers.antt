@@ -25,7 +25,7 @@ returns-clause-desk g c =
     let rest = c.in_ok-collect.ensures.rest in
     let why : c.or-cause.result ≡ option_or (option_or d.stopped (cause_in d.session n.outbox.given)) c.args.failed =
     c.or-cause.ensures ∙ ap (λ o. option_or o c.args.failed) (c.cause_of.ensures.first ∙ ap (λ (x : Desk). option_or x.stopped (cause_in x.session n.outbox.given)) rest) in
-    let both = closes p.law c.requires.floor r.state n c.args.failed d mid c.requires.legal c.requires.follows.now c.requires.desk rest c.in_ok-collect.ensures.acted c.requires.found in
+    let both = closes p.law c.requires.floor r.meaning.state n c.args.failed d mid c.requires.legal c.requires.follows.now c.requires.desk rest c.in_ok-collect.ensures.acted c.requires.found in
     subst (λ (x : Desk). DeskOk n d.session x) (sym (c.stop_unanswered.ensures ∙ ap (λ o. stopped_unanswered o mid) why)) both.0
 
 pub returns-clause-closes : goal.returns-clause-closes
@@ -38,5 +38,5 @@ returns-clause-closes g c =
     let rest = c.in_ok-collect.ensures.rest in
     let why : c.or-cause.result ≡ option_or (option_or d.stopped (cause_in d.session n.outbox.given)) c.args.failed =
     c.or-cause.ensures ∙ ap (λ o. option_or o c.args.failed) (c.cause_of.ensures.first ∙ ap (λ (x : Desk). option_or x.stopped (cause_in x.session n.outbox.given)) rest) in
-    let both = closes p.law c.requires.floor r.state n c.args.failed d mid c.requires.legal c.requires.follows.now c.requires.desk rest c.in_ok-collect.ensures.acted c.requires.found in
+    let both = closes p.law c.requires.floor r.meaning.state n c.args.failed d mid c.requires.legal c.requires.follows.now c.requires.desk rest c.in_ok-collect.ensures.acted c.requires.found in
     subst (λ (x : Desk). Closes n c.args.failed d x) (sym (c.stop_unanswered.ensures ∙ ap (λ o. stopped_unanswered o mid) why)) both.1

@@ -21,7 +21,7 @@ hand_in-requires-clause-near g c =
     let d = c.args.desk.now in
     let cmd = c.args.command.now in
     let w = under-ranked d.session (d.sent + 1) (command_text cmd) c.requires.desk.known (omega arith) (omega (arith, c.requires.few, c.requires.desk.few)) in
-    next_near p.law c.requires.floor r.state n d.session (d.sent + 1) d.answers.items c.in_ok-item.item (Some (content.Session d.session (d.sent + 1) (command_of (command_text cmd)))) g.met.R.Replica.state_is c.requires.legal
+    next_near p.law c.requires.floor r.meaning.state n d.session (d.sent + 1) d.answers.items c.in_ok-item.item (Some (content.Session d.session (d.sent + 1) (command_of (command_text cmd)))) g.met.R.Replica.state_is c.requires.legal
     c.requires.desk.known c.requires.follows.now c.requires.desk.acted c.requires.near (command_of (command_text cmd)) refl
     (ap (under 2) c.in_ok-item.ensures.item ∙ ap (λ k. under 2 (session_item d.session k cmd)) c.in-Some.ensures.value ∙ w)
 
@@ -64,6 +64,6 @@ returns-in-Ok-clause-desk g c =
     let d = c.args.desk.now in
     let new = c.collect.new.desk in
     let own = ap (rank_under d.session) c.in_ok-item.ensures.says ∙ own_under d.session c.in-Some.rank (Some c.args.command.now) ∙ ap (λ k. Some k) c.in-Some.ensures.value in
-    desk_logged p.law c.requires.floor r.state c.args.node.now c.hand_in.new.node d.session d new new.answers.items c.in_ok-hand_in.ensures.follows.now c.requires.desk c.requires.stopped c.requires.given
+    desk_logged p.law c.requires.floor r.meaning.state c.args.node.now c.hand_in.new.node d.session d new new.answers.items c.in_ok-hand_in.ensures.follows.now c.requires.desk c.requires.stopped c.requires.given
     c.requires.near (c.in_ok-hand_in.ensures.hands d.session d.sent own) c.in-Ok.ensures.acted refl
     (ap (λ (x : Desk). x.session) c.in-Ok.ensures.rest) (ap (λ (x : Desk). x.asked) c.in-Ok.ensures.rest) (ap (λ (x : Desk). x.sent) c.in-Ok.ensures.rest) (ap (λ (x : Desk). x.answered) c.in-Ok.ensures.rest)

@@ -46,7 +46,7 @@ returns-in-At-clause-looks g c =
       above = found.0;
       at = found.1;
     } in
-    looks_at p.law c.requires.floor old first then' new c.in-At.after e c.requires.keeps r.state d c.args.query.now c.in_ok-found-in-At.found g.met.R.Replica.state_is c.requires.desk
+    looks_at p.law c.requires.floor old first then' new c.in-At.after e c.requires.keeps r.meaning.state d c.args.query.now c.in_ok-found-in-At.found g.met.R.Replica.state_is c.requires.desk
     (c.in-None.ensures.stopped refl)
     (subst (λ (o : OutboxView). cause_in d.session o.given ≡ None) (sym c.in_ok-cause.ensures.outbox) (c.in-None.ensures.given refl))
     c.requires.bound c.in_ok-cause.ensures.follows.now c.in_ok-found-in-At.ensures.found

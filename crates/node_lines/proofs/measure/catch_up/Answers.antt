@@ -54,7 +54,7 @@ returns-in-At g c =
         unsettled = ap (λ (o : OutboxView). o.unsettled) c.in_ok-cause.ensures.outbox ∙ c.in_ok-settle.ensures.unsettled;
         kept = c.in_ok-cause.ensures.kept ∙ kept;
         measured = λ n same.
-            let at = stands_at p.law c.requires.floor old first then' new c.in-At.field-0 e c.requires.keeps g.R.Replica.state g.met.R.Replica.state_is c.in_ok-cause.ensures.follows.now in
+            let at = stands_at p.law c.requires.floor old first then' new c.in-At.field-0 e c.requires.keeps g.R.Replica.meaning.state g.met.R.Replica.state_is c.in_ok-cause.ensures.follows.now in
             record { at = at; is = same_number _ n same ∙ (c.cursor.ensures.cursor ∙ sym at.size) };
       };
     }

@@ -38,7 +38,7 @@ returns g c =
     let e = c.in_ok-failed.ensures.ends in
     let t = c.in_ok-collect_all.ensures.takes in
     let failed : c.in_ok-failed.failed ≡ None = c.in_default.is in
-    let w = answers_whole p.law c.requires.floor g.R.Replica.state n m c.in_ok-failed.failed c.args.desks.now c.collect_all.new.desks e failed c.requires.keeps c.requires.desks c.in_ok-failed.ensures.follows.now t c.in_ok-collect_all.ensures.desks in
+    let w = answers_whole p.law c.requires.floor g.R.Replica.meaning.state n m c.in_ok-failed.failed c.args.desks.now c.collect_all.new.desks e failed c.requires.keeps c.requires.desks c.in_ok-failed.ensures.follows.now t c.in_ok-collect_all.ensures.desks in
     record {
       answers = record {
         moves = subst (λ f. Moves p.law n m (failure_in f)) failed e.moves;

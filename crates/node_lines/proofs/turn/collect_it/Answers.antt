@@ -18,5 +18,5 @@ returns-in-Ok-clause-desk g c =
     let d = c.args.desk.now in
     let x = c.collect.new.desk in
     let rest = c.collect.ensures.rest in
-    desk_collected p.law c.requires.floor g.R.Replica.state n d.session d x.answers.items x c.requires.legal c.requires.follows.now c.requires.desk c.in-Ok.ensures.acted refl
+    desk_collected p.law c.requires.floor g.R.Replica.meaning.state n d.session d x.answers.items x c.requires.legal c.requires.follows.now c.requires.desk c.in-Ok.ensures.acted refl
     (ap (λ (y : Desk). y.session) rest) (ap (λ (y : Desk). y.asked) rest) (ap (λ (y : Desk). y.sent) rest) (λ none. sym (ap (λ (y : Desk). y.stopped) rest) ∙ none) (λ none. ap (λ (y : Desk). y.answered) rest)

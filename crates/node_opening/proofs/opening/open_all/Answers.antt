@@ -3,12 +3,11 @@ use Rattle.std.specs.Prelude.{slice_get}
 use Rattle.std.specs.List.{AllByRecursion}
 use Rattle.std.proofs.lemmas.List.{nil_from_length}
 use Rattle.log_laws.proofs.Pairs.{all-append, all-imply}
-use Rattle.log_laws.specs.State.{IsStateOf}
-use Rattle.local_replica.specs.Shown.{shown, Spells}
+use Rattle.local_replica.specs.Shown.{shown}
 use Rattle.replica_api.specs.Fresh.{IsFreshReplica}
 use Rattle.node_opening.proofs.Lists.{taken_first, drop_first, goes_over, all_over, each_push, pairs_push, as_long}
 use Rattle.fitting_run.specs.Fresh.{five_kinds, IsFreshNode}
-use Rattle.node_opening.specs.Opened.{IsCounted, IsArmedAs}
+use Rattle.node_opening.specs.Opened.{IsCounted, IsArmedAs, local_meaning}
 use Rattle.node_opening.proofs.Lists.{put_back}
 use Rattle.node_opening.proofs.opening.open_all.Goals as goal
 
@@ -35,8 +34,8 @@ loop-k-preserved g c =
     let who : c.in-Some.number ≡ length l.nodes.items + 1 = grind (arith, c.in-Some.ensures.value, l.invariant.done) in
     record {
       rest = (subst (AllByRecursion (λ k. IsFreshNode (g.E.Layers.kinds k.engines) (waiting k.engines) (g.D.Disk.view k.disk))) is l.invariant.rest).1;
-      fresh = λ j x at. each_push (λ j n. IsFreshReplica IsStateOf Spells (j + 1) (shown n.replica.store n.replica.origin (waiting n.replica.engines) n.replica.told)) l.nodes.items n l.invariant.fresh
-          (subst (λ i. IsFreshReplica IsStateOf Spells i (shown n.replica.store n.replica.origin (waiting n.replica.engines) n.replica.told)) who o.fresh) j x (ap (λ y. slice_get y j) (sym p.ensures.items) ∙ at);
+      fresh = λ j x at. each_push (λ j n. IsFreshReplica local_meaning (j + 1) (shown n.replica.store n.replica.origin (waiting n.replica.engines) n.replica.told)) l.nodes.items n l.invariant.fresh
+          (subst (λ i. IsFreshReplica local_meaning i (shown n.replica.store n.replica.origin (waiting n.replica.engines) n.replica.told)) who o.fresh) j x (ap (λ y. slice_get y j) (sym p.ensures.items) ∙ at);
       counted = subst (AllByRecursion (λ n. IsCounted (shown n.replica.store n.replica.origin (waiting n.replica.engines) n.replica.told))) (sym p.ensures.items)
           (all-append (λ n. IsCounted (shown n.replica.store n.replica.origin (waiting n.replica.engines) n.replica.told)) l.nodes.items (n ∷ []) l.invariant.counted (o.counted, tt));
       armed = λ j x at. pairs_push (λ n k. IsArmedAs (g.D.Disk.view k.disk) (shown n.replica.store n.replica.origin (waiting n.replica.engines) n.replica.told)) l.nodes.items n c.args.parts.now.items k l.invariant.armed here o.armed

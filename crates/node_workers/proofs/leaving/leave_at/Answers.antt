@@ -81,7 +81,7 @@ returns-clause-ok g c =
     let r = g.S.Replica in
     let back = c.tell_and_play-seat.result in
     let now = g.A.Access.seen back.access in
-    ok_comes (λ _. SeatOk (record p.law { may = Sends back.part.who p.law.may g.E.Sent.counts now }) r.state r.spells now back.part) back.answer c.came_to.ensures c.tell_and_play-seat.ensures.ok (λ x h. h)
+    ok_comes (λ _. SeatOk (record p.law { may = Sends back.part.who p.law.may g.E.Sent.counts now }) r.meaning now back.part) back.answer c.came_to.ensures c.tell_and_play-seat.ensures.ok (λ x h. h)
 
 pub returns-clause-each : goal.returns-clause-each
 returns-clause-each g c =

@@ -16,7 +16,7 @@ returns-clause-worker g c =
     let back = c.leave_at-seat.result in
     let e = c.leave_at-seat.ensures in
     ok_then back.answer (ok_pair _ _ back.answer (ok_pair _ _ back.answer e.ok e.each) (ok_pair _ _ back.answer e.desks e.leaves))
-    (λ l h. worker_answers p.law c.requires.run r.state r.spells a.who (sent_by c.args.worker.desks.items) (g.A.Access.seen c.args.access) (g.A.Access.seen back.access) a back.part c.args.worker.desks.items c.leave_at-seat.new.desks.items h.1.1.others
+    (λ l h. worker_answers p.law c.requires.run r.meaning a.who (sent_by c.args.worker.desks.items) (g.A.Access.seen c.args.access) (g.A.Access.seen back.access) a back.part c.args.worker.desks.items c.leave_at-seat.new.desks.items h.1.1.others
     refl c.requires.worker h.0.0 (none-waits back.part h.1.1.kept) h.1.1.moves h.0.1 h.1.0.0 h.1.0.1)
 
 pub returns-clause-desks : goal.returns-clause-desks

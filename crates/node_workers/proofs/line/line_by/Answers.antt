@@ -10,7 +10,7 @@ go-seat-requires-clause-seat g c =
     let p = g.A.Law.Rules in
     let r = g.S.Replica in
     let a = c.args.worker.seat in
-    seat_by p.law c.requires.run r.state r.spells a.who g.E.Sent.counts (g.A.Access.seen c.args.access) a c.args.worker.desks.items c.requires.sent c.requires.worker
+    seat_by p.law c.requires.run r.meaning a.who g.E.Sent.counts (g.A.Access.seen c.args.access) a c.args.worker.desks.items c.requires.sent c.requires.worker
 
 pub returns-clause-did : goal.returns-clause-did
 returns-clause-did g c =
@@ -32,4 +32,4 @@ returns-clause-worker g c =
     ok_then c.go-seat.result.answer (ok_pair _ _ c.go-seat.result.answer c.go-seat.ensures.ok c.go-seat.ensures.did)
     (λ x h.
     let came = g.Y.OwnLine.moves (record p.law { may = OwnWithin a.who p.law.may g.E.Sent.counts }) c.args.line (node_of a was) (node_of b now) x h.1 in
-    worker_moves p.law c.requires.run r.state r.spells a.who g.E.Sent.counts was now a b desks came.others c.requires.sent c.requires.worker h.0 (none-waits b came.kept) came.moves)
+    worker_moves p.law c.requires.run r.meaning a.who g.E.Sent.counts was now a b desks came.others c.requires.sent c.requires.worker h.0 (none-waits b came.kept) came.moves)

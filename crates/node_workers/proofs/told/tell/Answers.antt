@@ -19,7 +19,7 @@ within-requires-clause-seat g c =
     let r = g.S.Replica in
     let a = c.args.seat in
     let seen = g.A.Access.seen c.args.access in
-    seat_tells p.law a.who g.E.Sent.counts r.state r.spells (StaysKept g.A.Access.beside p.law.floor a seen c.args.item) a.node.replica.cursor seen (packed a.node.replica.origin (c.args.item ∷ [])) a (λ k. k.kept.high) c.requires.seat
+    seat_tells p.law a.who g.E.Sent.counts r.meaning (StaysKept g.A.Access.beside p.law.floor a seen c.args.item) a.node.replica.cursor seen (packed a.node.replica.origin (c.args.item ∷ [])) a (λ k. k.kept.high) c.requires.seat
 
 pub within-requires-clause-can : goal.within-requires-clause-can
 within-requires-clause-can g c =
@@ -62,7 +62,7 @@ returns-clause-left g c =
     let a = c.args.seat in
     let old = g.A.Access.seen c.args.access in
     let who : c.within.result.part.who ≡ a.who = c.within.ensures.sits ∙ (c.within.ensures.who ∙ sym c.requires.who) in
-    left_told p.law a.who g.E.Sent.counts r.state r.spells g.A.Access.beside (λ _. ⊥) (StaysKept g.A.Access.beside p.law.floor a old c.args.item) a.node.replica.cursor old (g.A.Access.seen c.within.result.access)
+    left_told p.law a.who g.E.Sent.counts r.meaning g.A.Access.beside (λ _. ⊥) (StaysKept g.A.Access.beside p.law.floor a old c.args.item) a.node.replica.cursor old (g.A.Access.seen c.within.result.access)
     (packed a.node.replica.origin (c.args.item ∷ [])) a c.within.result.part who c.within.ensures.since c.within.ensures.right c.within.ensures.seat
 
 pub returns-clause-ok : goal.returns-clause-ok
@@ -72,7 +72,7 @@ returns-clause-ok g c =
     let a = c.args.seat in
     let old = g.A.Access.seen c.args.access in
     ok_then c.within.result.answer c.within.ensures.did
-    (λ x h. ok_told p.law a.who g.E.Sent.counts r.state r.spells (StaysKept g.A.Access.beside p.law.floor a old c.args.item) a.node.replica.cursor old (g.A.Access.seen c.within.result.access)
+    (λ x h. ok_told p.law a.who g.E.Sent.counts r.meaning (StaysKept g.A.Access.beside p.law.floor a old c.args.item) a.node.replica.cursor old (g.A.Access.seen c.within.result.access)
     (packed a.node.replica.origin (c.args.item ∷ [])) c.within.result.part h.moves.goes.keeps.who h.none h.kept c.within.ensures.seat)
 
 pub returns-clause-kept : goal.returns-clause-kept

@@ -27,4 +27,4 @@ returns-clause-worker g c =
     let r = g.S.Replica in
     let back = c.in_turn-seat.result in
     ok_then back.answer (ok_pair _ _ back.answer c.in_turn-seat.ensures.ok c.in_turn-seat.ensures.did)
-    (λ failed h. worker_ends p.law c.requires.run r.state r.spells c.args.worker.seat.who (sent_by c.args.worker.desks.items) (g.A.Access.seen c.args.access) (g.A.Access.seen back.access) c.args.worker.seat back.part c.args.worker.desks.items c.in_turn-seat.new.on.items failed refl c.requires.worker h.0 h.1)
+    (λ failed h. worker_ends p.law c.requires.run r.meaning c.args.worker.seat.who (sent_by c.args.worker.desks.items) (g.A.Access.seen c.args.access) (g.A.Access.seen back.access) c.args.worker.seat back.part c.args.worker.desks.items c.in_turn-seat.new.on.items failed refl c.requires.worker h.0 h.1)

@@ -46,7 +46,7 @@ returns-then-not-is_ready-clause-ok g c =
     let counts = g.E.Sent.counts in
     let same : slice_set counts s c.keep.new.desk.sent ≡ counts = ap (λ (x : Desk). slice_set counts s x.sent) c.keep.ensures
     ∙ still_sent counts s d.sent (ap (λ (x : Desk). x.sent) (in_ok _ c.in-Ok.is c.in_turn-seat.ensures.did).0.desk ∙ c.requires.sent) in
-    subst (λ cs. SeatOk (record p.law { may = Sends back.part.who p.law.may cs (g.A.Access.seen back.access) }) r.state r.spells (g.A.Access.seen back.access) back.part) (sym same) (on_ok _ c.in-Ok.is c.in_turn-seat.ensures.ok)
+    subst (λ cs. SeatOk (record p.law { may = Sends back.part.who p.law.may cs (g.A.Access.seen back.access) }) r.meaning (g.A.Access.seen back.access) back.part) (sym same) (on_ok _ c.in-Ok.is c.in_turn-seat.ensures.ok)
 
 pub returns-then-not-is_ready-clause-kept : goal.returns-then-not-is_ready-clause-kept
 returns-then-not-is_ready-clause-kept g c = on_ok _ c.in-Ok.is (c.in_turn-seat.ensures.kept c.requires.kept)
@@ -80,7 +80,7 @@ in_turn-requires-clause-seat g c =
     let back = c.in_turn-seat.result in
     let is = (in_ok _ c.in-Ok.is c.in_turn-seat.ensures.did).0.desk in
     let sent : d.sent ≡ sent_of counts d.session = ap (λ (x : Desk). x.sent) is ∙ c.requires.sent ∙ ap (sent_of counts) (sym (ap (λ (x : Desk). x.session) is ∙ c.requires.desk.session)) in
-    seat_counted back.part.who p.law r.state r.spells counts (slice_set counts d.session (d.sent + 1)) (g.A.Access.seen back.access) back.part (set_rises counts d.session (d.sent + 1) (omega (arith, sent))) (on_ok _ c.in-Ok.is c.in_turn-seat.ensures.ok)
+    seat_counted back.part.who p.law r.meaning counts (slice_set counts d.session (d.sent + 1)) (g.A.Access.seen back.access) back.part (set_rises counts d.session (d.sent + 1) (omega (arith, sent))) (on_ok _ c.in-Ok.is c.in_turn-seat.ensures.ok)
 
 pub in_turn-requires-clause-can : goal.in_turn-requires-clause-can
 in_turn-requires-clause-can g c =
@@ -191,7 +191,7 @@ returns-clause-ok g c =
     let s = c.args.session in
     let named : d.session ≡ s = ap (λ (x : Desk). x.session) (in_ok _ c.in-Ok.is c.in_turn-seat.ensures.did).0.desk ∙ c.requires.desk.session in
     ok_then back.answer (ok_pair _ _ back.answer c.in_turn.ensures.ok c.in_turn.ensures.did)
-    (λ x h. subst (λ cs. SeatOk (record p.law { may = Sends back.part.who p.law.may cs (g.A.Access.seen back.access) }) r.state r.spells (g.A.Access.seen back.access) back.part) (ap (λ k. slice_set counts k (d.sent + 1)) named ∙ ap (λ (y : Desk). slice_set counts s y.sent) (sym h.1.counts)) h.0)
+    (λ x h. subst (λ cs. SeatOk (record p.law { may = Sends back.part.who p.law.may cs (g.A.Access.seen back.access) }) r.meaning (g.A.Access.seen back.access) back.part) (ap (λ k. slice_set counts k (d.sent + 1)) named ∙ ap (λ (y : Desk). slice_set counts s y.sent) (sym h.1.counts)) h.0)
 
 pub returns-clause-left : goal.returns-clause-left
 returns-clause-left g c = left_both c.in_turn-seat.ensures.left c.in_turn.ensures.left

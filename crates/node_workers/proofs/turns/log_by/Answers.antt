@@ -18,7 +18,7 @@ log_at-seat-requires-clause-seat g c =
     let p = g.A.Law.Rules in
     let r = g.S.Replica in
     let a = c.args.worker.seat in
-    seat_by p.law c.requires.run r.state r.spells a.who g.E.Sent.counts (g.A.Access.seen c.args.access) a c.args.worker.desks.items c.requires.sent c.requires.worker
+    seat_by p.law c.requires.run r.meaning a.who g.E.Sent.counts (g.A.Access.seen c.args.access) a c.args.worker.desks.items c.requires.sent c.requires.worker
 
 pub log_at-seat-requires-clause-wide : goal.log_at-seat-requires-clause-wide
 log_at-seat-requires-clause-wide g c =
@@ -55,9 +55,9 @@ returns-clause-worker g c =
     let counts' = slice_set g.E.Sent.counts s new.sent in
     let same : counts' ≡ sent_by (slice_set xs s new) = ap (λ cs. slice_set cs s new.sent) c.requires.sent ∙ sym (sent_set xs s new) in
     ok_then back.answer (ok_pair _ _ back.answer (ok_pair _ _ back.answer c.log_at-seat.ensures.ok c.log_at-seat.ensures.waits) (ok_pair _ _ back.answer c.log_at-seat.ensures.desk c.log_at-seat.ensures.logs))
-    (λ x h. subst (λ k. WorkerOk p.law r.state r.spells a.who (g.A.Access.seen back.access) back.part (slice_set xs k new)) (sym (c.from-i.ensures ∙ c.number.ensures.value))
-    (worker_logs p.law c.requires.run.low r.state r.spells a.who counts' (g.A.Access.seen c.args.access) (g.A.Access.seen back.access) a back.part xs s d new c.requires.worker c.requires.home
-    (subst (λ cs. SeatOk (record p.law { may = Sends back.part.who p.law.may cs (g.A.Access.seen back.access) }) r.state r.spells (g.A.Access.seen back.access) back.part) same h.0.0) h.0.1 at h.1.0 h.1.1))
+    (λ x h. subst (λ k. WorkerOk p.law r.meaning a.who (g.A.Access.seen back.access) back.part (slice_set xs k new)) (sym (c.from-i.ensures ∙ c.number.ensures.value))
+    (worker_logs p.law c.requires.run.low r.meaning a.who counts' (g.A.Access.seen c.args.access) (g.A.Access.seen back.access) a back.part xs s d new c.requires.worker c.requires.home
+    (subst (λ cs. SeatOk (record p.law { may = Sends back.part.who p.law.may cs (g.A.Access.seen back.access) }) r.meaning (g.A.Access.seen back.access) back.part) same h.0.0) h.0.1 at h.1.0 h.1.1))
 
 pub returns-clause-logs : goal.returns-clause-logs
 returns-clause-logs g c =

@@ -29,7 +29,7 @@ in_turn-seat-requires-clause-seat g c =
     let p = g.A.Law.Rules in
     let r = g.S.Replica in
     let a = c.args.worker.seat in
-    seat_by p.law c.requires.run r.state r.spells a.who g.E.Sent.counts (g.A.Access.seen c.args.access) a c.args.worker.desks.items c.requires.sent c.requires.worker
+    seat_by p.law c.requires.run r.meaning a.who g.E.Sent.counts (g.A.Access.seen c.args.access) a c.args.worker.desks.items c.requires.sent c.requires.worker
 
 pub returns-clause-worker : goal.returns-clause-worker
 returns-clause-worker g c =
@@ -37,7 +37,7 @@ returns-clause-worker g c =
     let r = g.S.Replica in
     let back = c.in_turn-seat.result in
     ok_then back.answer (ok_pair _ _ back.answer c.in_turn-seat.ensures.ok c.in_turn-seat.ensures.did)
-    (λ x h. worker_moves p.law c.requires.run r.state r.spells c.args.worker.seat.who g.E.Sent.counts (g.A.Access.seen c.args.access) (g.A.Access.seen back.access) c.args.worker.seat back.part c.args.worker.desks.items h.1.0.others c.requires.sent c.requires.worker h.0 (none-waits back.part h.1.1) h.1.0.moves)
+    (λ x h. worker_moves p.law c.requires.run r.meaning c.args.worker.seat.who g.E.Sent.counts (g.A.Access.seen c.args.access) (g.A.Access.seen back.access) c.args.worker.seat back.part c.args.worker.desks.items h.1.0.others c.requires.sent c.requires.worker h.0 (none-waits back.part h.1.1) h.1.0.moves)
 
 pub returns-clause-looks : goal.returns-clause-looks
 returns-clause-looks g c =

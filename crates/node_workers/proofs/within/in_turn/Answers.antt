@@ -25,7 +25,7 @@ within-requires-clause-seat g c =
     let r = g.S.Replica in
     let a = c.args.seat in
     let seen = g.A.Access.seen c.args.access in
-    seat_begins p.law a.who g.E.Sent.counts r.state r.spells (IsKept g.A.Access.beside p.law.floor a seen) a.node.replica.cursor seen a (λ k. k.high) c.requires.seat
+    seat_begins p.law a.who g.E.Sent.counts r.meaning (IsKept g.A.Access.beside p.law.floor a seen) a.node.replica.cursor seen a (λ k. k.high) c.requires.seat
 
 pub within-requires-clause-stays : goal.within-requires-clause-stays
 within-requires-clause-stays g c = λ is.
@@ -40,7 +40,7 @@ returns-clause-left g c =
     let a = c.args.seat in
     let old = g.A.Access.seen c.args.access in
     let who : c.within.result.part.who ≡ a.who = c.within.ensures.sits ∙ (c.within.ensures.who ∙ sym c.requires.who) in
-    left_by p.law a.who g.E.Sent.counts r.state r.spells g.A.Access.beside g.X.NodeStep.seals (IsKept g.A.Access.beside p.law.floor a old) a.node.replica.cursor old (g.A.Access.seen c.within.result.access) a c.within.result.part who
+    left_by p.law a.who g.E.Sent.counts r.meaning g.A.Access.beside g.X.NodeStep.seals (IsKept g.A.Access.beside p.law.floor a old) a.node.replica.cursor old (g.A.Access.seen c.within.result.access) a c.within.result.part who
     c.within.ensures.since c.within.ensures.right c.within.ensures.seat
 
 pub returns-clause-ok : goal.returns-clause-ok
@@ -52,8 +52,8 @@ returns-clause-ok g c =
     let old = g.A.Access.seen c.args.access in
     let new = g.A.Access.seen c.within.result.access in
     let who : b.who ≡ a.who = c.within.ensures.sits ∙ (c.within.ensures.who ∙ sym c.requires.who) in
-    always (SeatOk (record p.law { may = Sends b.who p.law.may g.E.Sent.counts new }) r.state r.spells new b)
-    (ok_by p.law a.who g.E.Sent.counts r.state r.spells (IsKept g.A.Access.beside p.law.floor a old) a.node.replica.cursor old new b who (grows-since b.who (g.A.Access.beside b.who) old new c.within.ensures.since) c.within.ensures.seat)
+    always (SeatOk (record p.law { may = Sends b.who p.law.may g.E.Sent.counts new }) r.meaning new b)
+    (ok_by p.law a.who g.E.Sent.counts r.meaning (IsKept g.A.Access.beside p.law.floor a old) a.node.replica.cursor old new b who (grows-since b.who (g.A.Access.beside b.who) old new c.within.ensures.since) c.within.ensures.seat)
     c.within.result.answer
 
 pub returns-clause-kept : goal.returns-clause-kept

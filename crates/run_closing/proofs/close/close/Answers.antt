@@ -17,7 +17,7 @@ take_all_nodes-crew-requires-clause-takes g c =
     let w = q.result.crew in
     let rests = on_ok _ c.in-Ok-answer.is q.ensures.rests in
     let most = in_ok _ c.in-Ok-answer.is q.ensures.most in
-    takes_first p.law r.state r.spells c.args.lines.now (λ w. w.seat) (λ w. w.desks.items) w.workers.items w.fabric.journal w.looks.items rests.0 c.in-Ok-answer.most.node c.in-Ok-answer.most.cursor rests.1 most
+    takes_first p.law r.meaning c.args.lines.now (λ w. w.seat) (λ w. w.desks.items) w.workers.items w.fabric.journal w.looks.items rests.0 c.in-Ok-answer.most.node c.in-Ok-answer.most.cursor rests.1 most
     (in_ok _ c.in-Ok-answer.is q.ensures.sees)
 
 pub returns-in-Ok-answer-2-clause-closed : goal.returns-in-Ok-answer-2-clause-closed
@@ -28,7 +28,7 @@ returns-in-Ok-answer-2-clause-closed g c =
     let w = q.result.crew in
     let m = c.in-Ok-answer.most in
     let takes = on_ok _ c.in-Ok-answer-2.is q.ensures.takes in
-    has_closed p.law r.state r.spells c.args.lines.now (λ w. w.seat) (λ w. w.desks.items) w.workers.items w.fabric.journal w.looks.items m.node m.cursor takes
+    has_closed p.law r.meaning c.args.lines.now (λ w. w.seat) (λ w. w.desks.items) w.workers.items w.fabric.journal w.looks.items m.node m.cursor takes
 
 pub returns-in-Ok-answer-2-clause-sees : goal.returns-in-Ok-answer-2-clause-sees
 returns-in-Ok-answer-2-clause-sees g c =

@@ -28,7 +28,7 @@ loop-k-init g c =
       left = λ passed j w low at. absurd (omega (arith, low));
       some = λ e. absurd (true≢false e);
       most = most_first (λ w. w.seat) a.workers.items
-          (some_node p.law r.state r.spells c.args.lines.now (λ w. w.seat) (λ w. w.desks.items) a.workers.items (length c.args.lines.now) c.requires.rests.0 a.fabric.journal a.looks.items c.requires.rests.1);
+          (some_node p.law r.meaning c.args.lines.now (λ w. w.seat) (λ w. w.desks.items) a.workers.items (length c.args.lines.now) c.requires.rests.0 a.fabric.journal a.looks.items c.requires.rests.1);
       sees = λ e. absurd (true≢false e);
     }
 
@@ -107,7 +107,7 @@ returns-clause-stands g c =
     let p = g.K.Terms in
     let r = g.S.Replica in
     let l = c.loop-k in
-    rests_stand p.law r.state r.spells c.args.lines.now (λ w. w.seat) (λ w. w.desks.items) l.crew.workers.items (length c.args.lines.now) l.invariant.rests.0 l.crew.fabric.journal l.crew.looks.items l.invariant.rests.1
+    rests_stand p.law r.meaning c.args.lines.now (λ w. w.seat) (λ w. w.desks.items) l.crew.workers.items (length c.args.lines.now) l.invariant.rests.0 l.crew.fabric.journal l.crew.looks.items l.invariant.rests.1
 
 pub returns-in-Err-clause-grows : goal.returns-in-Err-clause-grows
 returns-in-Err-clause-grows g c =

@@ -2,7 +2,7 @@ use Rattle.std.proofs.Common.{◌≡◌, ℕ, ◌+◌, ◌<◌, ◌≤◌, true,
 use Rattle.std.specs.Prelude.{slice_get}
 use Rattle.node_workers.specs.declared.worker.Worker.{Worker}
 use Rattle.node_lines.specs.Workers.{Grows}
-use Rattle.run_closing.specs.Finishing.{AllLeft, HasPlayed, HasLeft, HasMost, PassesBy, PlaysAt, SomeSees}
+use Rattle.run_closing.specs.Finishing.{AllLeft, HasPlayed, HasLeft, HasMost, PassesBy, PlaysAt, IsPlayedWhole}
 use Rattle.run_closing.proofs.finish.finish_each.Given as goal
 
 abbrev pub invariant-loop-k : goal.invariant-loop-k
@@ -10,7 +10,7 @@ invariant-loop-k g l = record {
   high : l.k ≤ length l.initial.crew.workers.items;
   size : length l.crew.workers.items ≡ length l.initial.crew.workers.items;
   looks : l.crew.looks.items ≡ l.initial.crew.looks.items;
-  rests : HasPlayed g.K.Terms.law g.S.Replica.state g.S.Replica.spells l.lines l.crew.fabric.journal l.crew.looks.items (λ w. w.seat) (λ w. w.desks.items) l.crew.workers.items;
+  rests : HasPlayed g.K.Terms.law g.S.Replica.meaning l.lines l.crew.fabric.journal l.crew.looks.items (λ w. w.seat) (λ w. w.desks.items) l.crew.workers.items;
   grows : Grows l.initial.crew.fabric.journal l.crew.fabric.journal;
   waits : (j : ℕ) → l.k ≤ j → slice_get l.crew.workers.items j ≡ slice_get l.initial.crew.workers.items j;
   passes : PassesBy l.lines l.initial.crew.looks.items (λ w. w.seat) l.initial.crew.workers.items l.crew.workers.items;
@@ -19,5 +19,5 @@ invariant-loop-k g l = record {
   left : l.passed ≡ true → (j : ℕ) (w : Worker g.row.S.Denot g.row.C.Denot) → j < l.k → slice_get l.initial.crew.workers.items j ≡ Some w → HasLeft l.lines l.initial.crew.looks.items (j + 1) w.seat;
   some : l.passed ≡ false → AllLeft l.lines l.initial.crew.looks.items (λ w. w.seat) l.initial.crew.workers.items → ⊥;
   most : HasMost (λ w. w.seat) l.crew.workers.items l.k l.most.node l.most.cursor;
-  sees : l.passed ≡ false → SomeSees l.crew.fabric.journal (λ w. w.seat) l.crew.workers.items;
+  sees : l.passed ≡ false → IsPlayedWhole l.crew.fabric.journal (λ w. w.seat) l.crew.workers.items;
 }

@@ -20,8 +20,8 @@ returns-clause-rests g c =
     let new = q.new.fabric.journal in
     on_ok q.result q.ensures.opens (λ o. (
       h.0,
-      subst (λ l. CrewRests p.law r.state r.spells lines (length lines) h.0 l w.looks.items (λ w. w.seat) (λ w. w.desks.items) w.workers.items) (sym o.seen)
-          (crew_read p.law r.state r.spells lines (λ w. w.seat) (λ w. w.desks.items) w.workers.items (length lines) h.0 early o.more w.looks.items h.1 refl
+      subst (λ l. CrewRests p.law r.meaning lines (length lines) h.0 l w.looks.items (λ w. w.seat) (λ w. w.desks.items) w.workers.items) (sym o.seen)
+          (crew_read p.law r.meaning lines (λ w. w.seat) (λ w. w.desks.items) w.workers.items (length lines) h.0 early o.more w.looks.items h.1 refl
           (own_more 0 early new o.more q.ensures.watches.since o.seen) (reads_opened w.fabric q.new.fabric o.more o.calls) (subst (IsLegal p.law) o.seen q.ensures.legal)),
     ))
 
@@ -35,6 +35,6 @@ returns-clause-stands g c = λ j x at.
     let lines = c.args._lines.now in
     let early = w.fabric.journal in
     let since = q.ensures.watches.since in
-    let before = rests_stand p.law r.state r.spells lines (λ w. w.seat) (λ w. w.desks.items) w.workers.items (length lines) h.0 early w.looks.items h.1 in
-    subst (λ l. SeatOk p.law r.state r.spells l x.seat) (sym since.seen)
-    (seat_later p.law early since.more (subst (IsLegal p.law) since.seen q.ensures.legal) r.state r.spells x.seat (before j x at))
+    let before = rests_stand p.law r.meaning lines (λ w. w.seat) (λ w. w.desks.items) w.workers.items (length lines) h.0 early w.looks.items h.1 in
+    subst (λ l. SeatOk p.law r.meaning l x.seat) (sym since.seen)
+    (seat_later p.law early since.more (subst (IsLegal p.law) since.seen q.ensures.legal) r.meaning x.seat (before j x at))

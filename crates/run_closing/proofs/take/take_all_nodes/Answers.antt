@@ -10,7 +10,7 @@ returns-clause-takes g c =
     let a = c.args in
     let l = c.loop-k in
     let over : l.k ≡ length l.crew.workers.items = omega (arith, l.invariant.high, l.invariant.size, c.loop-k-test.false) in
-    subst (λ k. CrewTakes p.law r.state r.spells a.lines.now a.most.node a.most.cursor k l.crew.fabric.journal l.crew.looks.items (λ w. w.seat) (λ w. w.desks.items) l.crew.workers.items) over l.invariant.takes
+    subst (λ k. CrewTakes p.law r.meaning a.lines.now a.most.node a.most.cursor k l.crew.fabric.journal l.crew.looks.items (λ w. w.seat) (λ w. w.desks.items) l.crew.workers.items) over l.invariant.takes
 
 pub returns-clause-stands : goal.returns-clause-stands
 returns-clause-stands g c =
@@ -18,4 +18,4 @@ returns-clause-stands g c =
     let r = g.S.Replica in
     let a = c.args in
     let l = c.loop-k in
-    takes_stand p.law r.state r.spells a.lines.now (λ w. w.seat) (λ w. w.desks.items) l.crew.workers.items l.crew.fabric.journal l.crew.looks.items a.most.node a.most.cursor l.k l.invariant.takes
+    takes_stand p.law r.meaning a.lines.now (λ w. w.seat) (λ w. w.desks.items) l.crew.workers.items l.crew.fabric.journal l.crew.looks.items a.most.node a.most.cursor l.k l.invariant.takes

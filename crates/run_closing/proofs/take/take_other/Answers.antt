@@ -30,7 +30,7 @@ take_answers-seat-requires-clause-seat g c =
     let mid = c.remove-seat.new.self.items in
     let w = c.remove-other.result in
     let at = other_at xs mid a.most.node a.k c.beside-i.result w c.remove-seat.ensures.items c.requires.other h.there c.requires.there (c.beside-i.ensures.low, c.beside-i.ensures.high) c.remove-other.ensures.value in
-    takes_ok p.law r.state r.spells a._lines.now (λ w. w.seat) (λ w. w.desks.items) xs a.crew.fabric.journal a.crew.looks.items a.most.node a.most.cursor a.k h a.most.node b w best at
+    takes_ok p.law r.meaning a._lines.now (λ w. w.seat) (λ w. w.desks.items) xs a.crew.fabric.journal a.crew.looks.items a.most.node a.most.cursor a.k h a.most.node b w best at
 
 pub take_answers-seat-requires-clause-desks : goal.take_answers-seat-requires-clause-desks
 take_answers-seat-requires-clause-desks g c =
@@ -45,7 +45,7 @@ take_answers-seat-requires-clause-desks g c =
     let h = c.requires.takes in
     let best = slice_get_read xs (length xs) a.most.node b refl h.there c.remove-seat.ensures.value in
     let at = other_at xs mid a.most.node a.k i w c.remove-seat.ensures.items c.requires.other h.there c.requires.there (c.beside-i.ensures.low, c.beside-i.ensures.high) c.remove-other.ensures.value in
-    can_take p.law r.state r.spells a._lines.now (λ w. w.seat) (λ w. w.desks.items) xs a.crew.fabric.journal a.crew.looks.items a.most.node a.most.cursor a.k h b w best at
+    can_take p.law r.meaning a._lines.now (λ w. w.seat) (λ w. w.desks.items) xs a.crew.fabric.journal a.crew.looks.items a.most.node a.most.cursor a.k h b w best at
 
 pub returns-clause-takes : goal.returns-clause-takes
 returns-clause-takes g c =
@@ -71,11 +71,11 @@ returns-clause-takes g c =
     let items = put_both xs mid c.remove-other.new.self.items c.insert.new.self.items c.insert-2.new.self.items node a.k i y z c.remove-seat.ensures.items c.remove-other.ensures.items first second c.requires.other h.there inside (c.beside-i.ensures.low, c.beside-i.ensures.high) in
     let seen = ap (λ (n : NodeView). n.seen) q.ensures.node in
     let same = subst (λ j. node_of q.result.part j ≡ node_of b.seat journal) seen q.ensures.node in
-    let ok = subst (λ j. SeatOk (record p.law { may = WithinDesks p.law.may w.desks.items }) r.state r.spells j q.result.part) seen q.ensures.seat in
+    let ok = subst (λ j. SeatOk (record p.law { may = WithinDesks p.law.may w.desks.items }) r.meaning j q.result.part) seen q.ensures.seat in
     on_ok q.result.answer q.ensures.takes (λ t.
-    subst (λ j. CrewTakes p.law r.state r.spells a._lines.now node a.most.cursor (a.k + 1) j a.crew.looks.items (λ w. w.seat) (λ w. w.desks.items) c.insert-2.new.self.items) (sym seen)
-    (subst (λ l. CrewTakes p.law r.state r.spells a._lines.now node a.most.cursor (a.k + 1) journal a.crew.looks.items (λ w. w.seat) (λ w. w.desks.items) l) (sym items)
-    (other_taken p.law r.state r.spells a._lines.now (λ w. w.seat) (λ w. w.desks.items) xs journal a.crew.looks.items node a.most.cursor a.k h b w y z c.requires.other best at refl same ok refl t)))
+    subst (λ j. CrewTakes p.law r.meaning a._lines.now node a.most.cursor (a.k + 1) j a.crew.looks.items (λ w. w.seat) (λ w. w.desks.items) c.insert-2.new.self.items) (sym seen)
+    (subst (λ l. CrewTakes p.law r.meaning a._lines.now node a.most.cursor (a.k + 1) journal a.crew.looks.items (λ w. w.seat) (λ w. w.desks.items) l) (sym items)
+    (other_taken p.law r.meaning a._lines.now (λ w. w.seat) (λ w. w.desks.items) xs journal a.crew.looks.items node a.most.cursor a.k h b w y z c.requires.other best at refl same ok refl t)))
 
 pub returns-clause-stands : goal.returns-clause-stands
 returns-clause-stands g c =
@@ -101,7 +101,7 @@ returns-clause-stands g c =
     let items = put_both xs mid c.remove-other.new.self.items c.insert.new.self.items c.insert-2.new.self.items node a.k i y z c.remove-seat.ensures.items c.remove-other.ensures.items first second c.requires.other h.there inside (c.beside-i.ensures.low, c.beside-i.ensures.high) in
     let seen = ap (λ (n : NodeView). n.seen) q.ensures.node in
     let same = subst (λ j. node_of q.result.part j ≡ node_of b.seat journal) seen q.ensures.node in
-    let ok = subst (λ j. SeatOk (record p.law { may = WithinDesks p.law.may w.desks.items }) r.state r.spells j q.result.part) seen q.ensures.seat in
-    subst (λ j. CrewStands p.law r.state r.spells j (λ w. w.seat) c.insert-2.new.self.items) (sym seen)
-    (subst (λ l. CrewStands p.law r.state r.spells journal (λ w. w.seat) l) (sym items)
-    (other_stands p.law r.state r.spells a._lines.now (λ w. w.seat) (λ w. w.desks.items) xs journal a.crew.looks.items node a.most.cursor a.k h b w y z c.requires.other best at refl same ok refl))
+    let ok = subst (λ j. SeatOk (record p.law { may = WithinDesks p.law.may w.desks.items }) r.meaning j q.result.part) seen q.ensures.seat in
+    subst (λ j. CrewStands p.law r.meaning j (λ w. w.seat) c.insert-2.new.self.items) (sym seen)
+    (subst (λ l. CrewStands p.law r.meaning journal (λ w. w.seat) l) (sym items)
+    (other_stands p.law r.meaning a._lines.now (λ w. w.seat) (λ w. w.desks.items) xs journal a.crew.looks.items node a.most.cursor a.k h b w y z c.requires.other best at refl same ok refl))

@@ -20,7 +20,7 @@ take_answers-seat-requires-clause-seat g c =
     let w = c.remove-seat.result in
     let h = c.requires.takes in
     let at = slice_get_read a.crew.workers.items (length a.crew.workers.items) a.most.node w refl h.there c.remove-seat.ensures.value in
-    takes_ok p.law r.state r.spells a._lines.now (λ w. w.seat) (λ w. w.desks.items) a.crew.workers.items a.crew.fabric.journal a.crew.looks.items a.most.node a.most.cursor a.most.node h a.most.node w w at at
+    takes_ok p.law r.meaning a._lines.now (λ w. w.seat) (λ w. w.desks.items) a.crew.workers.items a.crew.fabric.journal a.crew.looks.items a.most.node a.most.cursor a.most.node h a.most.node w w at at
 
 pub take_answers-seat-requires-clause-desks : goal.take_answers-seat-requires-clause-desks
 take_answers-seat-requires-clause-desks g c =
@@ -30,7 +30,7 @@ take_answers-seat-requires-clause-desks g c =
     let w = c.remove-seat.result in
     let h = c.requires.takes in
     let at = slice_get_read a.crew.workers.items (length a.crew.workers.items) a.most.node w refl h.there c.remove-seat.ensures.value in
-    can_take p.law r.state r.spells a._lines.now (λ w. w.seat) (λ w. w.desks.items) a.crew.workers.items a.crew.fabric.journal a.crew.looks.items a.most.node a.most.cursor a.most.node h w w at at
+    can_take p.law r.meaning a._lines.now (λ w. w.seat) (λ w. w.desks.items) a.crew.workers.items a.crew.fabric.journal a.crew.looks.items a.most.node a.most.cursor a.most.node h w w at at
 
 pub returns-clause-takes : goal.returns-clause-takes
 returns-clause-takes g c =
@@ -49,11 +49,11 @@ returns-clause-takes g c =
     ∙ (ap (λ l. insert l k y) c.remove-seat.ensures.items ∙ put_back xs k y h.there) in
     let seen = ap (λ (n : NodeView). n.seen) q.ensures.node in
     let same = subst (λ i. node_of q.result.part i ≡ node_of w.seat journal) seen q.ensures.node in
-    let ok = subst (λ i. SeatOk (record p.law { may = WithinDesks p.law.may w.desks.items }) r.state r.spells i q.result.part) seen q.ensures.seat in
+    let ok = subst (λ i. SeatOk (record p.law { may = WithinDesks p.law.may w.desks.items }) r.meaning i q.result.part) seen q.ensures.seat in
     on_ok q.result.answer q.ensures.takes (λ t.
-    subst (λ i. CrewTakes p.law r.state r.spells a._lines.now k a.most.cursor (k + 1) i a.crew.looks.items (λ w. w.seat) (λ w. w.desks.items) c.insert.new.self.items) (sym seen)
-    (subst (λ l. CrewTakes p.law r.state r.spells a._lines.now k a.most.cursor (k + 1) journal a.crew.looks.items (λ w. w.seat) (λ w. w.desks.items) l) (sym items)
-    (own_taken p.law r.state r.spells a._lines.now (λ w. w.seat) (λ w. w.desks.items) xs journal a.crew.looks.items k a.most.cursor k h w y at same ok refl t)))
+    subst (λ i. CrewTakes p.law r.meaning a._lines.now k a.most.cursor (k + 1) i a.crew.looks.items (λ w. w.seat) (λ w. w.desks.items) c.insert.new.self.items) (sym seen)
+    (subst (λ l. CrewTakes p.law r.meaning a._lines.now k a.most.cursor (k + 1) journal a.crew.looks.items (λ w. w.seat) (λ w. w.desks.items) l) (sym items)
+    (own_taken p.law r.meaning a._lines.now (λ w. w.seat) (λ w. w.desks.items) xs journal a.crew.looks.items k a.most.cursor k h w y at same ok refl t)))
 
 pub returns-clause-stands : goal.returns-clause-stands
 returns-clause-stands g c =
@@ -72,7 +72,7 @@ returns-clause-stands g c =
     ∙ (ap (λ l. insert l k y) c.remove-seat.ensures.items ∙ put_back xs k y h.there) in
     let seen = ap (λ (n : NodeView). n.seen) q.ensures.node in
     let same = subst (λ i. node_of q.result.part i ≡ node_of w.seat journal) seen q.ensures.node in
-    let ok = subst (λ i. SeatOk (record p.law { may = WithinDesks p.law.may w.desks.items }) r.state r.spells i q.result.part) seen q.ensures.seat in
-    subst (λ i. CrewStands p.law r.state r.spells i (λ w. w.seat) c.insert.new.self.items) (sym seen)
-    (subst (λ l. CrewStands p.law r.state r.spells journal (λ w. w.seat) l) (sym items)
-    (own_stands p.law r.state r.spells a._lines.now (λ w. w.seat) (λ w. w.desks.items) xs journal a.crew.looks.items k a.most.cursor k h w y at same ok))
+    let ok = subst (λ i. SeatOk (record p.law { may = WithinDesks p.law.may w.desks.items }) r.meaning i q.result.part) seen q.ensures.seat in
+    subst (λ i. CrewStands p.law r.meaning i (λ w. w.seat) c.insert.new.self.items) (sym seen)
+    (subst (λ l. CrewStands p.law r.meaning journal (λ w. w.seat) l) (sym items)
+    (own_stands p.law r.meaning a._lines.now (λ w. w.seat) (λ w. w.desks.items) xs journal a.crew.looks.items k a.most.cursor k h w y at same ok))

@@ -29,9 +29,9 @@ returns-clause-worker g c =
     let who : b.who ≡ a.who = e.sits ∙ (e.who ∙ sym c.requires.who) in
     let grows = grows-since b.who (g.A.Access.beside b.who) was now e.since in
     ok_then back.answer (ok_pair _ _ back.answer e.moves e.kept)
-    (λ x h. subst (λ ds. WorkerOk p.law r.state r.spells a.who now b ds.items) (sym e.desks) (worker_moves p.law c.requires.run r.state r.spells a.who counts was now a b c.args.worker.desks.items [] refl c.requires.worker
-    (subst (λ w. SeatOk (record p.law { may = Sends w p.law.may counts now }) r.state r.spells now b) (sym who)
-    (seat_wider (record p.law { may = Sends a.who p.law.may counts was }) (record p.law { may = Sends a.who p.law.may counts now }) (record { may = λ user y k. sends_grow a.who p.law.may counts was now grows user y k; floor = λ log n k. k; shelf = refl }) r.state r.spells now b e.seat))
+    (λ x h. subst (λ ds. WorkerOk p.law r.meaning a.who now b ds.items) (sym e.desks) (worker_moves p.law c.requires.run r.meaning a.who counts was now a b c.args.worker.desks.items [] refl c.requires.worker
+    (subst (λ w. SeatOk (record p.law { may = Sends w p.law.may counts now }) r.meaning now b) (sym who)
+    (seat_wider (record p.law { may = Sends a.who p.law.may counts was }) (record p.law { may = Sends a.who p.law.may counts now }) (record { may = λ user y k. sends_grow a.who p.law.may counts was now grows user y k; floor = λ log n k. k; shelf = refl }) r.meaning now b e.seat))
     (subst (All IsOfSession) (sym h.1) c.requires.worker.waits)
     (moves_wider (record p.law { may = Sends a.who p.law.may counts was }) (record p.law { may = OwnWithin a.who p.law.may counts }) (record { may = λ user y k. k.0; floor = λ log n k. k; shelf = refl }) (node_of a was) (node_of b now) [] h.0)))
 
@@ -61,7 +61,7 @@ returns-clause-left g c =
     let now = g.A.Access.seen c.finish_within.result.access in
     let who : b.who ≡ c.args.worker.seat.who = e.sits ∙ (e.who ∙ sym c.requires.who) in
     record {
-      stands = seat_wider (record p.law { may = Sends c.args.worker.seat.who p.law.may (sent_by c.args.worker.desks.items) was }) p.law (record { may = λ user x k. k.0.0; floor = λ log n k. k; shelf = refl }) r.state r.spells now b e.seat;
+      stands = seat_wider (record p.law { may = Sends c.args.worker.seat.who p.law.may (sent_by c.args.worker.desks.items) was }) p.law (record { may = λ user x k. k.0.0; floor = λ log n k. k; shelf = refl }) r.meaning now b e.seat;
       who = who;
       since = subst (λ w. Since w (g.A.Access.beside w) was now) who e.since;
       seals = subst (λ w. SealsByRight ⊥ w was now) who e.right;

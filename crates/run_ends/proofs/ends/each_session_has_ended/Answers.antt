@@ -3,4 +3,4 @@ use Rattle.run_ends.proofs.ends.each_session_has_ended.Goals as goal
 
 pub returns : goal.returns
 returns g c = let p = g.P.Rules in let replica = g.S.Replica in λ run lines rows journal looks log workers s h are.
-    session_ended p.law replica.state replica.spells lines journal looks log workers h rows are s
+    session_ended p.law replica.meaning lines journal looks log workers h rows are s

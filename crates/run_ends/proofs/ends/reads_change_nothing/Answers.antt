@@ -3,4 +3,4 @@ use Rattle.run_ends.proofs.ends.reads_change_nothing.Goals as goal
 
 pub returns : goal.returns
 returns g c = λ lines journal more looks log workers h own reads legal.
-    closed_on g.P.Rules.law g.S.Replica.state g.S.Replica.spells lines journal more looks log workers h own reads legal
+    closed_on g.P.Rules.law g.S.Replica.meaning lines journal more looks log workers h own reads legal

@@ -12,4 +12,4 @@ returns g c = let p = g.P.Rules in let replica = g.S.Replica in λ run lines row
       lack_there = c.a_fault_names_a_cell.ensures.lack;
       full_there = c.a_fault_names_a_cell.ensures.full;
     } in
-    faults_came p.law told replica.state replica.spells lines rows journal looks log workers o.chain yard h back
+    faults_came p.law told replica.meaning lines rows journal looks log workers o.chain yard h back

@@ -11,10 +11,10 @@ use Rattle.script_runner.proofs.Outside.{composes-bad}
 use Rattle.script_runner.proofs.compose.compose.Goals as goal
 
 pub compose_task-requires-clause-fresh : goal.compose_task-requires-clause-fresh
-compose_task-requires-clause-fresh g c = (c.requires.fresh c.in-Some.plan c.in-Some.is).1
+compose_task-requires-clause-fresh g c κs within = (c.requires.fresh c.in-Some.plan c.in-Some.is).1
 
 pub compose_task-requires-clause-plan : goal.compose_task-requires-clause-plan
-compose_task-requires-clause-plan g c = (c.requires.fresh c.in-Some.plan c.in-Some.is).0
+compose_task-requires-clause-plan g c κs within = (c.requires.fresh c.in-Some.plan c.in-Some.is).0
 
 pub returns-in-Some-clause-ok : goal.returns-in-Some-clause-ok
 returns-in-Some-clause-ok g c =

@@ -11,7 +11,7 @@ use Rattle.script_runner.proofs.ScriptLines.{can_play}
 use Rattle.script_runner.proofs.compose.compose_run.Goals as goal
 
 pub play-yard-requires-clause-script : goal.play-yard-requires-clause-script
-play-yard-requires-clause-script g c =
+play-yard-requires-clause-script g c κs within =
     let s = c.requires.spelled in
     let asked : c.as_slice-asked.result.now ≡ lines_of c.args.script = search rules in
     subst (λ ls. CanPlay (length c.args.yard.nodes.items) ls) (sym asked)

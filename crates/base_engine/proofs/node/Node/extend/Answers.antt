@@ -15,8 +15,8 @@ invariant_of-self g c =
     let new : NodeView = record { who = t.who c.extend.new.log; nodes = x.nodes; seen = t.seen c.extend.new.log; known = t.reaches c.extend.new.log; replica = r.shows x.replica; outbox = view_of x.outbox } in
     let e = c.extend.ensures in
     let i = c.self.invariant in
-    ok_same p.law t.holds r.state r.spells old new i e.later.legal e.who
-    (follows_later p.law t.holds r.state r.spells g.met.L.SharedLog.stays old.seen new.seen old.replica e.later i.follows) (known_more old.known new.known old.replica e.known i.bounded) refl refl refl refl
+    ok_same p.law t.holds r.meaning old new i e.later.legal e.who
+    (follows_later p.law t.holds r.meaning g.met.L.SharedLog.stays old.seen new.seen old.replica e.later i.follows) (known_more old.known new.known old.replica e.known i.bounded) refl refl refl refl
 
 pub returns-clause-follows : goal.returns-clause-follows
 returns-clause-follows g c =
@@ -24,4 +24,4 @@ returns-clause-follows g c =
     let t = g.L.SharedLog in
     let r = g.R.Replica in
     let x = c.self.inside in
-    follows_later p.law t.holds r.state r.spells g.met.L.SharedLog.stays (t.seen x.log) (t.seen c.extend.new.log) (r.shows x.replica) c.extend.ensures.later c.self.invariant.follows
+    follows_later p.law t.holds r.meaning g.met.L.SharedLog.stays (t.seen x.log) (t.seen c.extend.new.log) (r.shows x.replica) c.extend.ensures.later c.self.invariant.follows

@@ -16,5 +16,5 @@ invariant_of-self g c =
     let new : NodeView = record { who = t.who c.flush.new.log; nodes = x.nodes; seen = t.seen c.flush.new.log; known = t.reaches c.flush.new.log; replica = r.shows c.flush.new.replica; outbox = view_of c.flush.new.outbox } in
     let e = c.flush.ensures in
     let i = c.self.invariant in
-    ok_waiting p.law t.holds r.state r.spells old new i.eight e.later.legal (follows_rest p.law t.holds r.state r.spells g.met.L.SharedLog.stays old.seen new.seen old.replica new.replica e.later e.rest i.follows)
+    ok_waiting p.law t.holds r.meaning old new i.eight e.later.legal (follows_rest p.law t.holds r.meaning g.met.L.SharedLog.stays old.seen new.seen old.replica new.replica e.later e.rest i.follows)
     (known_rest old.known new.known old.replica new.replica e.known e.rest i.bounded) e.may e.few e.who (ap (λ (v : ReplicaView). v.origin) e.rest) e.waiting

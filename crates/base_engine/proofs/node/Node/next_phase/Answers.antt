@@ -13,4 +13,4 @@ invariant_of-self g c =
     let old : NodeView = record { who = t.who x.log; nodes = x.nodes; seen = t.seen x.log; known = t.reaches x.log; replica = r.shows x.replica; outbox = view_of x.outbox } in
     let new : NodeView = record { who = t.who x.log; nodes = x.nodes; seen = t.seen x.log; known = t.reaches x.log; replica = r.shows x.replica; outbox = record { entries = x.outbox.entries.items; given = c.clear.new.self.items; unsettled = x.outbox.unsettled } } in
     let i = c.self.invariant in
-    ok_same p.law t.holds r.state r.spells old new i i.legal refl i.follows i.bounded refl refl refl refl
+    ok_same p.law t.holds r.meaning old new i i.legal refl i.follows i.bounded refl refl refl refl

@@ -15,7 +15,7 @@ invariant_of-self g c =
     let old : NodeView = record { who = t.who x.log; nodes = x.nodes; seen = t.seen x.log; known = t.reaches x.log; replica = r.shows x.replica; outbox = view_of x.outbox } in
     let new : NodeView = record { who = t.who c.propose.new.log; nodes = x.nodes; seen = t.seen c.propose.new.log; known = t.reaches c.propose.new.log; replica = r.shows c.propose.new.replica; outbox = view_of c.propose.new.outbox } in
     let e = c.propose.ensures in
-    ok_waiting p.law t.holds r.state r.spells old new c.self.invariant.eight e.later.legal e.follows e.bounded e.may e.few e.who e.origin e.waiting
+    ok_waiting p.law t.holds r.meaning old new c.self.invariant.eight e.later.legal e.follows e.bounded e.may e.few e.who e.origin e.waiting
 
 pub returns-clause-proposed : goal.returns-clause-proposed
 returns-clause-proposed g c =

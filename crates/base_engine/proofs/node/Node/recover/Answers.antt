@@ -14,4 +14,4 @@ invariant_of-self g c =
     let new : NodeView = record { who = t.who x.log; nodes = x.nodes; seen = t.seen x.log; known = t.reaches x.log; replica = r.shows c.restore.new.replica; outbox = view_of x.outbox } in
     let e = c.restore.ensures in
     let i = c.self.invariant in
-    ok_same p.law t.holds r.state r.spells old new i i.legal refl e.follows e.bounded refl e.kept e.origin refl
+    ok_same p.law t.holds r.meaning old new i i.legal refl e.follows e.bounded refl e.kept e.origin refl

@@ -15,5 +15,5 @@ invariant_of-self g c =
     let new : NodeView = record { who = t.who c.settle_all.new.log; nodes = x.nodes; seen = t.seen c.settle_all.new.log; known = t.reaches c.settle_all.new.log; replica = r.shows x.replica; outbox = view_of c.settle_all.new.outbox } in
     let e = c.settle_all.ensures in
     let i = c.self.invariant in
-    ok_waiting p.law t.holds r.state r.spells old new i.eight e.later.legal (follows_later p.law t.holds r.state r.spells g.met.L.SharedLog.stays old.seen new.seen old.replica e.later i.follows) (known_more old.known new.known old.replica e.known i.bounded)
+    ok_waiting p.law t.holds r.meaning old new i.eight e.later.legal (follows_later p.law t.holds r.meaning g.met.L.SharedLog.stays old.seen new.seen old.replica e.later i.follows) (known_more old.known new.known old.replica e.known i.bounded)
     e.may e.few e.who refl i.waiting

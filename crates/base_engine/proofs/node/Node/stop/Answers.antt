@@ -15,5 +15,5 @@ invariant_of-self g c =
     let i = c.self.invariant in
     let old : NodeView = record { who = t.who x.log; nodes = x.nodes; seen = t.seen x.log; known = t.reaches x.log; replica = r.shows x.replica; outbox = view_of x.outbox } in
     let new : NodeView = record old { replica = armed_by old.replica c.args.after } in
-    subst (λ (v : ReplicaView). NodeOk p.law t.holds r.state r.spells (record old { replica = v })) (sym c.stop.ensures)
-    (ok_same p.law t.holds r.state r.spells old new i i.legal refl (follows_armed t.holds r.state r.spells old.seen old.replica c.args.after i.follows) (known_armed old.known old.replica c.args.after i.bounded) refl refl refl refl)
+    subst (λ (v : ReplicaView). NodeOk p.law t.holds r.meaning (record old { replica = v })) (sym c.stop.ensures)
+    (ok_same p.law t.holds r.meaning old new i i.legal refl (follows_armed t.holds r.meaning old.seen old.replica c.args.after i.follows) (known_armed old.known old.replica c.args.after i.bounded) refl refl refl refl)

@@ -15,7 +15,7 @@ invariant_of-self g c =
     let old : NodeView = record { who = t.who x.log; nodes = x.nodes; seen = t.seen x.log; known = t.reaches x.log; replica = r.shows x.replica; outbox = view_of x.outbox } in
     let new : NodeView = record { who = t.who c.sync.new.log; nodes = x.nodes; seen = t.seen c.sync.new.log; known = t.reaches c.sync.new.log; replica = r.shows c.sync.new.replica; outbox = view_of x.outbox } in
     let e = c.sync.ensures in
-    ok_same p.law t.holds r.state r.spells old new c.self.invariant e.later.legal e.who e.follows e.bounded refl e.kept e.origin refl
+    ok_same p.law t.holds r.meaning old new c.self.invariant e.later.legal e.who e.follows e.bounded refl e.kept e.origin refl
 
 pub returns-clause-exact : goal.returns-clause-exact
 returns-clause-exact g c =

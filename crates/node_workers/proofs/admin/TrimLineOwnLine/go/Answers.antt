@@ -12,12 +12,13 @@ use Rattle.node_lines.specs.Workers.{OwnWithin, OwnAdds, IsOfSessions, SaysAlone
 use Rattle.node_lines.specs.Steps.{TellsAndPlays}
 use Rattle.node_lines.proofs.Own.{own_adds_trans, own_adds_wider}
 use Rattle.node_lines.proofs.Reporting.{says_alone}
+use Rattle.node_lines.proofs.Widening.{grows-both, grows-since}
 use Rattle.node_lines.proofs.Assembling.{trims_unmeasured}
 use Rattle.node_workers.proofs.Joining.{says-one}
 use Rattle.node_workers.proofs.Stepping.{left_both}
 use Rattle.node_workers.proofs.Ok.{in_ok, on_ok, in_ok_at, ok_then, ok_pair}
 use Rattle.node_workers.proofs.Telling.{adds_saying, may_say, tells_moves, trim_low}
-use Rattle.node_workers.proofs.Trimming.{asks_reported, may_trim, reported_on, trim_adds_none, trim_adds_told, trims, trims_not}
+use Rattle.node_workers.proofs.Trimming.{asks_held, asks_reported, may_trim, reported_on, trim_adds_none, trim_adds_told, trims, trims_not}
 use Rattle.node_workers.proofs.admin.TrimLineOwnLine.go.Goals as goal
 
 pub returns-in-Failed-clause-ok : goal.returns-in-Failed-clause-ok
@@ -27,7 +28,8 @@ pub returns-in-Failed-clause-kept : goal.returns-in-Failed-clause-kept
 returns-in-Failed-clause-kept g c = on_ok _ c.in-Ok.is (c.in_turn-seat.ensures.kept c.requires.kept)
 
 pub returns-in-Failed-clause-adds : goal.returns-in-Failed-clause-adds
-returns-in-Failed-clause-adds g c = trim_adds_none c.args.seat.who (g.A.Access.seen c.args.access) (g.A.Access.seen c.in_turn-seat.result.access) (on_ok _ c.in-Ok.is c.in_turn-seat.ensures.adds)
+returns-in-Failed-clause-adds g c = trim_adds_none c.args.seat.who (g.A.Access.seen c.args.access) (g.A.Access.seen c.in_turn-seat.result.access)
+    (grows-since c.args.seat.who (g.A.Access.beside c.args.seat.who) (g.A.Access.seen c.args.access) (g.A.Access.seen c.in_turn-seat.result.access) c.in_turn-seat.ensures.left.since) (on_ok _ c.in-Ok.is c.in_turn-seat.ensures.adds)
 
 pub returns-in-Failed-clause-did : goal.returns-in-Failed-clause-did
 returns-in-Failed-clause-did g c =
@@ -80,12 +82,14 @@ returns-in-Some-clause-adds g c =
     let later = g.A.Access.seen c.tell_and_play-seat.result.access in
     let item = c.in-Ok-trim_item.value in
     let on = c.tell_and_play-seat.ensures.left.since in
-    trim_adds_told c.args.seat.who was later c.in-At.position
+    trim_adds_told c.args.seat.who was mid later c.in-At.position
     (reported_on mid later on.more c.in-At.position on.seen
     (asks_reported (record p.law { may = OwnWithin c.args.seat.who p.law.may g.E.Sent.counts }) c.requires.run.low (node_of c.args.seat was) (node_of b mid) c.in-At.position (in_ok_at _ c.in-Ok.is c.in-At.is c.in_turn-seat.ensures.did)))
     (adds_saying c.args.seat.who was mid later (packed b.node.replica.origin (item ∷ [])) (content.Trim c.in-At.position) (on_ok _ c.in-Ok.is c.in_turn-seat.ensures.adds)
     (subst (λ w. OwnAdds w (λ e. IsOfSessions e ⊎ (e ≡ packed b.node.replica.origin (item ∷ []))) mid later) c.in_turn-seat.ensures.left.who (on_ok _ c.in-Ok-answer.is c.tell_and_play-seat.ensures.adds))
     (says-one b.node.replica.origin item (content.Trim c.in-At.position) c.in-Ok-trim_item.ensures.proposable c.in-Ok-trim_item.ensures.says))
+    (on.more, on.seen) (on_ok _ c.in-Ok.is c.in_turn-seat.ensures.adds)
+    (asks_held (record p.law { may = OwnWithin c.args.seat.who p.law.may g.E.Sent.counts }) c.requires.run.low (node_of c.args.seat was) (node_of b mid) c.in-At.position (in_ok_at _ c.in-Ok.is c.in-At.is c.in_turn-seat.ensures.did))
 
 pub in_turn-requires-clause-seat : goal.in_turn-requires-clause-seat
 in_turn-requires-clause-seat g c = on_ok _ c.in-Ok-answer.is c.tell_and_play-seat.ensures.ok
@@ -154,7 +158,7 @@ returns-clause-adds g c =
     let cut = c.in_turn.ensures.left.since in
     let P : Entry → Type 0 = λ e. IsOfSessions e ⊎ SaysAlone (content.Trim c.in-At.position) e in
     ok_then c.in_turn.result.answer (ok_pair _ _ c.in_turn.result.answer c.in_turn.ensures.did c.in_turn.ensures.adds)
-    (λ l h. trim_adds_told c.args.seat.who was now c.in-At.position
+    (λ l h. trim_adds_told c.args.seat.who was mid now c.in-At.position
     (reported_on later now cut.more c.in-At.position cut.seen (reported_on mid later on.more c.in-At.position on.seen
     (asks_reported (record p.law { may = OwnWithin c.args.seat.who p.law.may g.E.Sent.counts }) c.requires.run.low (node_of c.args.seat was) (node_of b mid) c.in-At.position (in_ok_at _ c.in-Ok.is c.in-At.is c.in_turn-seat.ensures.did))))
     (own_adds_trans c.args.seat.who P was later now
@@ -162,7 +166,9 @@ returns-clause-adds g c =
     (subst (λ w. OwnAdds w (λ e. IsOfSessions e ⊎ (e ≡ packed b.node.replica.origin (item ∷ []))) mid later) c.in_turn-seat.ensures.left.who (on_ok _ c.in-Ok-answer.is c.tell_and_play-seat.ensures.adds))
     (says-one b.node.replica.origin item (content.Trim c.in-At.position) c.in-Ok-trim_item.ensures.proposable c.in-Ok-trim_item.ensures.says))
     (own_adds_wider c.args.seat.who IsOfSessions P later now (λ e k. inl k)
-    (subst (λ w. OwnAdds w IsOfSessions later now) (c.tell_and_play-seat.ensures.left.who ∙ c.in_turn-seat.ensures.left.who) h.1))))
+    (subst (λ w. OwnAdds w IsOfSessions later now) (c.tell_and_play-seat.ensures.left.who ∙ c.in_turn-seat.ensures.left.who) h.1)))
+    (grows-both mid later now (on.more, on.seen) (cut.more, cut.seen)) (on_ok _ c.in-Ok.is c.in_turn-seat.ensures.adds)
+    (asks_held (record p.law { may = OwnWithin c.args.seat.who p.law.may g.E.Sent.counts }) c.requires.run.low (node_of c.args.seat was) (node_of b mid) c.in-At.position (in_ok_at _ c.in-Ok.is c.in-At.is c.in_turn-seat.ensures.did)))
 
 pub returns-in-Some-clause-ok : goal.returns-in-Some-clause-ok
 returns-in-Some-clause-ok g c = on_ok _ c.in-Ok-answer.is c.tell_and_play-seat.ensures.ok

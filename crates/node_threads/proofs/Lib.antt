@@ -1,0 +1,7 @@
+pub mod Numbers
+pub mod Joining
+pub mod Parts
+pub mod Posts
+pub mod Looks
+pub mod Meeting
+pub mod Working

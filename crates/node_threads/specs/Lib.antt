@@ -1,0 +1,5 @@
+pub mod Parts
+pub mod Passes
+pub mod Phases
+pub mod Posts
+pub mod Running

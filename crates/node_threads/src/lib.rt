@@ -1,0 +1,16 @@
+//! The nodes of a run in threads: phase by phase, each node with its lines, all beside one another over a fabric under a lock.
+//!
+//! - `gated`: a node's access, at which it passes a gate.
+//! - `part`: what a node does in a phase.
+//! - `post`: a node at its part of the lock.
+//! - `phase`: one phase, from the parting of the lock's pass to its joining.
+//! - `phases`: all of them.
+//! - `laws`: what goes on as they work.
+#![tactic(auto)]
+
+pub mod gated;
+pub mod laws;
+pub mod part;
+pub mod phase;
+pub mod phases;
+pub mod post;
