@@ -1,5 +1,5 @@
 #!/bin/sh
-# Turns a second of the pass lock, and of std's Mutex in Rust, with 1, 2 and 4 threads.
+# Turns a second of the pass lock, and of std's Mutex in Rust, with 1, 2, 4 and 8 threads.
 #
 # usage: bench/pass_lock/run.sh PROGRAM [TURNS [RUNS]]
 #
@@ -29,7 +29,7 @@ measure() {
 
 echo "| lock | threads | turns a second, best | median |"
 echo "|---|---|---|---|"
-for threads in 1 2 4; do
+for threads in 1 2 4 8; do
     measure "pass lock" locked $threads
     measure "std Mutex" in_mutex $threads
 done

@@ -1,9 +1,9 @@
-//! Plays schedules of a world, and users in threads, and prints each step with what came of it.
+//! Plays schedules of a world, and clerks in threads, and prints each step with what came of it.
 //!
 //! - `topic`: what the schedules of a file are about.
 //! - `worlds`: a world, and its steps. `steps`: lists of them.
 //! - `pictures`: a world in words.
-//! - `gates`: a gate that holds a node. `threads`: users and clerks in threads.
+//! - `gates`: a gate that holds a node. `threads`: clerks in threads.
 #![tactic(auto)]
 
 mod gates;
