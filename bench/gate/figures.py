@@ -41,6 +41,19 @@ def add(newest, told):
     newest[key] = told
 
 
+def standing(newest, crates):
+    """Those of the figures whose part the gate still has: a crate that is gone costs nothing, nor do tests or wrong bodies that are."""
+    named = {it.name: it for it in crates}
+    return {key: told for key, told in newest.items() if not told.crate or (told.crate in named and has_part(named[told.crate], told))}
+
+
+def has_part(crate, told):
+    """Whether a crate still has what was measured."""
+    folder = f"{crate.folder}/must-fail"
+    edits = {it.removesuffix(".edit") for it in os.listdir(folder)} if os.path.isdir(folder) else set()
+    return {TESTS: crate.has_tests(), SEED: bool(edits), EDITS: told.what in edits}.get(told.part, True)
+
+
 def write(path, newest):
     """Writes the figures, one line each, in place of what the file had."""
     with open(f"{path}.new", "w", encoding="utf-8") as it:

@@ -9,7 +9,7 @@ import threading
 sys.path.insert(0, os.path.dirname(os.path.dirname(os.path.realpath(__file__))))
 import toolchain
 
-from figures import BUILDS, EDITS, OTHER, PROOF, SEED, TESTS, Figure, read, text_sum, write
+from figures import BUILDS, EDITS, OTHER, PROOF, SEED, TESTS, Figure, read, standing, text_sum, write
 from table import table_of
 
 # Which edit a thread of the gate tries.
@@ -101,6 +101,7 @@ def main(words):
             status = rt.main(["ci", *words])
         finally:
             timer.end()
+    write(raw, standing(read(raw), crates))
     with open(page, "w", encoding="utf-8") as it:
         it.write(table_of(crates, read(raw), texts))
     print(f"gate: {os.path.relpath(page, top)}", file=sys.stderr)
