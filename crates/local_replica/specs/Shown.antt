@@ -6,7 +6,8 @@ use Rattle.journal_pair.specs.Records.{records_of}
 use Rattle.store_records.specs.Spelled.{committed, saved_of}
 use Rattle.store_records.specs.Spelled as spelled
 use Rattle.local_store.specs.View as store
-use Rattle.replica_api.specs.Replica.{Saved, ReplicaView}
+use Rattle.log_laws.specs.State.{IsStateOf}
+use Rattle.replica_api.specs.Replica.{Meaning, Saved, ReplicaView}
 
 -- what a store keeps
 abbrev pub pair_of : spelled.Saved → Saved
@@ -31,3 +32,7 @@ shown v origin waiting told = record {
 -- the records of a disk with these bytes spell this cursor and this space
 abbrev pub Spells : List ℕ → Saved → Type 0
 Spells image s = saved_of (records_of image) ≡ Some (record { cursor = s.cursor; contents = s.contents })
+
+-- what the log and the disk of a local replica mean
+abbrev pub local_meaning : Meaning
+local_meaning = record { state = IsStateOf; spells = Spells }

@@ -1,8 +1,7 @@
 //! A store and the engines over it, as one replica.
 ghost use Rattle.std.specs.Prelude.{◌≡◌, ◌+◌, ◌<◌, ◌^◌, [], ◌∷◌};
-ghost use Rattle.log_laws.specs.State.{IsStateOf};
 ghost use Rattle.replica_api.specs.Replica.{Survives};
-ghost use Rattle.local_replica.specs.Shown.{shown, Spells};
+ghost use Rattle.local_replica.specs.Shown.{local_meaning, shown};
 
 use crate::applying::{apply, reopen, stop};
 use crate::layers::Layers;
@@ -72,7 +71,7 @@ impl<E: Layers, D: Disk> LocalReplica<E, D> {
 impl<E: Layers, D: Disk> Replica for LocalReplica<E, D> {
     ghost shows = { λ r. shown r.store r.origin (E.waiting r.engines) r.told };
 
-    ghost meaning = { record { state = IsStateOf; spells = Spells } };
+    ghost meaning = { local_meaning };
 
     ghost state_is = { λ log m h. h };
 

@@ -9,10 +9,10 @@ use Rattle.store_records.specs.declared.change.Commit.{Commit}
 use Rattle.store_records.specs.Spelled.{Saved, nothing_saved, committed}
 use Rattle.log_laws.specs.State.{IsStateOf}
 use Rattle.local_store.specs.View as store
-use Rattle.local_replica.specs.Shown.{pair_of, shown}
+use Rattle.local_replica.specs.Shown.{pair_of, shown, local_meaning}
 use Rattle.local_replica.proofs.Showing.{shown_survives}
 use Rattle.replica_api.specs.Fresh.{IsFreshReplica}
-use Rattle.node_opening.specs.Opened.{IsCounted, IsArmedAs, local_meaning}
+use Rattle.node_opening.specs.Opened.{IsCounted, IsArmedAs}
 
 pub fresh_replica : (v s : store.View) (o number : ℕ) (w : List Item) (t : ℕ) → v ≡ s → store.saved_in s ≡ nothing_saved → s.asked ≡ None → store.Survives s → o ≡ number → w ≡ [] → IsStateOf [] map.empty → IsFreshReplica local_meaning number (shown v o w t)
 fresh_replica v s o number w t is start none survives same waits empty = record {

@@ -1,14 +1,9 @@
 -- A node's state machine at first.
 use Rattle.std.specs.Prelude.{◌≡◌, ℕ, ◌+◌, ◌<◌, ◌&&◌, not, nat_lt, true, false, List, slice_get, Some}
 use Rattle.disk_model.specs.Disk.{DiskView}
-use Rattle.log_laws.specs.State.{IsStateOf}
-use Rattle.replica_api.specs.Replica.{Meaning, ReplicaView}
-use Rattle.local_replica.specs.Shown.{Spells}
+use Rattle.replica_api.specs.Replica.{ReplicaView}
+use Rattle.local_replica.specs.Shown.{local_meaning}
 use Rattle.replica_api.specs.Fresh.{IsFreshReplica}
-
--- what the log and the disk of a local replica mean
-abbrev pub local_meaning : Meaning
-local_meaning = record { state = IsStateOf; spells = Spells }
 
 -- a replica is down just where a fault of its disk was counted
 pub record IsCounted (v : ReplicaView) : Type 0 where

@@ -2,10 +2,10 @@
 ghost use Rattle.std.specs.Prelude.{◌≡◌, ◌≤◌, ◌+◌, [], ◌∷◌, length, map, IfOk, IfErr, OnOk, OnErr};
 ghost use Rattle.std.specs.List.{AllByRecursion};
 ghost use Rattle.std.specs.Vec.{vec_capacity};
-ghost use Rattle.local_replica.specs.Shown.{shown};
+ghost use Rattle.local_replica.specs.Shown.{local_meaning, shown};
 ghost use Rattle.replica_api.specs.Fresh.{IsFreshReplica};
 ghost use Rattle.fitting_run.specs.Fresh.{IsFreshNode};
-ghost use Rattle.node_opening.specs.Opened.{IsCounted, IsArmedAs, AreFreshReplicas, AreArmedAs, local_meaning};
+ghost use Rattle.node_opening.specs.Opened.{IsCounted, IsArmedAs, AreFreshReplicas, AreArmedAs};
 
 use crate::closing::{close_before, put_first};
 use crate::parts::NodeParts;

@@ -9,11 +9,15 @@ use crate::chronicled::Chronicled;
 use crate::rule::{Advance, Draw, Look, Raise, Turnstile};
 use crate::view::View;
 use atomic_table::{Seat, Shared};
+use std::hint::spin_loop;
 use std::sync::Wait;
 
 pub(crate) type Top<S> = Shared<Option<S>, View<<S as Chronicled>::Entry>, u64, Turnstile<S>>;
 
 pub(crate) type Place<S> = Seat<Option<S>, View<<S as Chronicled>::Entry>>;
+
+/// How often a thread looks whether its turn has come before it sleeps: for about as long as a thread takes to fall asleep and be woken.
+const LOOKS: u32 = 100;
 
 // Draws a ticket, waits for that turn, and takes the value. The number is the ticket's word.
 pub(crate) fn take<S: Chronicled, R: Wait>(rt: &R, top: &Top<S>, place: &mut Place<S>) -> (S, u64)
@@ -30,14 +34,20 @@ pub(crate) fn take<S: Chronicled, R: Wait>(rt: &R, top: &Top<S>, place: &mut Pla
     ensures signed { length place.old.me.0.parts ≡ all_parts → Signed S.signer place.old.me.0.parts (S.journal result.0) }
 {
     let ticket = top.fetch_add::<Draw>(place, 0, 1);
+    let mut looks = 0;
     for _ in rt.forever() {
         let serving = top.load::<Look>(place, 1);
         if serving == ticket {
             let value = top.exchange(place, 0, None).unwrap();
             return (value, ticket);
         }
-        // A thread sleeps while the low half of the word is what it saw.
-        top.park(rt, 1, (serving % 4294967296) as u32);
+        if looks < LOOKS {
+            looks += 1;
+            spin_loop();
+        } else {
+            // A thread sleeps while the low half of the word is what it saw.
+            top.park(rt, 1, (serving % 4294967296) as u32);
+        }
     }
     unreachable!()
 }

@@ -11,7 +11,7 @@ use Rattle.journal_pair.specs.Records.{records_of}
 use Rattle.journal_pair.proofs.Areas.{no_bytes}
 use Rattle.store_records.specs.Spelled.{Saved, committed, saved_of, nothing_saved}
 use Rattle.local_store.specs.View as store
-use Rattle.local_replica.specs.Shown.{pair_of, shown, Spells}
+use Rattle.local_replica.specs.Shown.{pair_of, shown, Spells, local_meaning}
 use Rattle.local_replica.proofs.Showing.{shown_survives}
 use Rattle.replica_api.specs.Replica.{Survives, armed_by}
 use Rattle.delos_types.specs.declared.item.Item.{Item}
@@ -20,7 +20,7 @@ use Rattle.base_engine.specs.Holding.{held_stays}
 use Rattle.base_engine.specs.Node.{NodeView, NodeOk, Keeps, RestedView, awake}
 use Rattle.base_engine.proofs.Following.{follows_later}
 use Rattle.base_engine.proofs.Whole.{ok_same}
-use Rattle.worked_nodes.specs.Resting.{local_meaning, two_nodes, Rests, AreTwo, IsNew}
+use Rattle.worked_nodes.specs.Resting.{two_nodes, Rests, AreTwo, IsNew}
 
 pub rests_later : (who : ℕ) (early late : List Event) (node : RestedView) (log : virtual_log.RestedView) → Later two_nodes early late → Rests who early node log → Rests who late node log
 rests_later who early late node log on r = record {

@@ -4,7 +4,6 @@ use Rattle.std.specs.FinMap as map
 use Rattle.delos_types.specs.declared.entry.Entry.{Entry}
 use Rattle.engine_api.specs.Acted.{unpack_all}
 use Rattle.engine_api.specs.Members.{least_position}
-use Rattle.log_laws.specs.State.{IsStateOf}
 use Rattle.legal_journal.specs.Law.{Law}
 use Rattle.legal_journal.specs.declared.events.Event.{Event}
 use Rattle.legal_journal.specs.Journal.{state_of}
@@ -12,8 +11,7 @@ use Rattle.virtual_log.specs.Holding.{Holds}
 use Rattle.virtual_log.specs.Log.{GoesBy}
 use Rattle.virtual_log.specs.Log as virtual_log
 use Rattle.local_store.specs.View as store
-use Rattle.local_replica.specs.Shown.{Spells}
-use Rattle.replica_api.specs.Replica.{Meaning}
+use Rattle.local_replica.specs.Shown.{local_meaning}
 use Rattle.base_engine.specs.Node.{NodeView, NodeOk, RestedView, awake}
 
 -- everybody may append anything
@@ -32,10 +30,6 @@ one_loglet = 1 ∷ []
 -- the law of two nodes
 abbrev pub two_nodes : Law
 two_nodes = record { may = anything; floor = least_of_two; shelf = one_loglet }
-
--- what a node's log and its disk mean
-abbrev pub local_meaning : Meaning
-local_meaning = record { state = IsStateOf; spells = Spells }
 
 -- what a node without its log has, and what it knows of its log, holds by this journal
 pub record Rests (who : ℕ) (seen : List Event) (node : RestedView) (log : virtual_log.RestedView) : Type 0 where

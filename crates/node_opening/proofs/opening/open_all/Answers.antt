@@ -3,11 +3,11 @@ use Rattle.std.specs.Prelude.{slice_get}
 use Rattle.std.specs.List.{AllByRecursion}
 use Rattle.std.proofs.lemmas.List.{nil_from_length}
 use Rattle.log_laws.proofs.Pairs.{all-append, all-imply}
-use Rattle.local_replica.specs.Shown.{shown}
+use Rattle.local_replica.specs.Shown.{shown, local_meaning}
 use Rattle.replica_api.specs.Fresh.{IsFreshReplica}
 use Rattle.node_opening.proofs.Lists.{taken_first, drop_first, goes_over, all_over, each_push, pairs_push, as_long}
 use Rattle.fitting_run.specs.Fresh.{five_kinds, IsFreshNode}
-use Rattle.node_opening.specs.Opened.{IsCounted, IsArmedAs, local_meaning}
+use Rattle.node_opening.specs.Opened.{IsCounted, IsArmedAs}
 use Rattle.node_opening.proofs.Lists.{put_back}
 use Rattle.node_opening.proofs.opening.open_all.Goals as goal
 
