@@ -1,5 +1,6 @@
 -- The six steps of a turn keep the rule of the lock's table.
 use Rattle.std.proofs.Common.{◌≡◌, ◌≢◌, ℕ, suc, ◌+◌, ◌%◌, ◌^◌, ◌<◌, ◌≤◌, eqb, List, [], ◌∷◌, ◌++◌, length, get_or, set, sym, refl, ap, ◌∙◌, subst, ⊎_elim, inl, inr, arith, cond, Option, Some}
+use prog.Atomic.{either}
 use mathlib.Core.Logic.{dite}
 use mathlib.Core.Option.{none, some, some-injective, some-ne-none}
 use mathlib.Core.Option as maybe
@@ -10,12 +11,12 @@ use Rattle.std.specs.List.{All, Contains}
 use Rattle.std.proofs.lemmas.List.{append_cancel_left}
 use Rattle.std.proofs.lemmas.List.Elements.{All-weaker, All-append}
 use Rattle.atomic_table.specs.Table.{State, step, Act, keeps, takes, gives, stepped, carried_after, put_back, rest, Valid, Allows}
-use Rattle.atomic_table.proofs.Lists.{at_set, set_here, set_again, one_turn}
+use Rattle.atomic_table.proofs.Lists.{at_set, exchanged, set_here, set_again, one_turn}
 use Rattle.pass_lock.specs.declared.view.View.{View}
 use Rattle.pass_lock.specs.Journal.{total, InTurns, numbers, IsKnown, Signed}
 use Rattle.pass_lock.specs.Pass.{all_parts, brought}
 use Rattle.pass_lock.specs.Rule.{parts_with, turns_with, Turned, part_count, in_turn, seeing, Kept}
-use Rattle.pass_lock.specs.Steps.{Held, drew, looked, raised, advanced}
+use Rattle.pass_lock.specs.Steps.{Held, drew, tried, looked, raised, advanced}
 use Rattle.pass_lock.proofs.Sums.{at_inside, term_le, terms_le, total_le, total_alone}
 use Rattle.pass_lock.proofs.Known.{brought-length, brought-times, brought-again, brought-same, has_number, number_there, times_le, known_brought, known_more}
 use Rattle.pass_lock.proofs.Kept.{some_is, has_part, signs_not, moved, still, alone}
@@ -60,6 +61,14 @@ module _ {S E : Type 0} (journal : S → List E) (signer : E → ℕ) (count : �
   unmoved : (s : St) (r : Rule s) (i id : ℕ) (me : Held S E) → get_elem? s.views id ≡ some me.0 → Rule (stepped s i (get_or s.words i 0) id me.1 me.0 keeps)
   unmoved s r i id me at = let P : List ℕ → List (View E) → Type 0 = λ ws vs. Rule record { words = ws; homes = s.homes; views = vs } in
       subst (λ (ws : List ℕ). P ws (set s.views id me.0)) (sym (set-get_or s.words i 0)) (subst (P s.words) (sym (set_again s.views id me.0 at)) r)
+
+  pub tries : (slots id old new : ℕ) (me : Held S E) → me.0.stage ≡ 0 → 0 < length me.0.parts → new ≡ (old + 1) % 2 ^ 64 → Allows Rule slots id me 0 (λ n. either (eqb n old) new n) (tried (step slots 0 old new none) me)
+  tries slots id old new me idle has next s r deep at small = let n : ℕ = get_or s.words 0 0 in
+      let F : ℕ → Type 0 = λ k. (w : View E) × (a : Act (Option S)) × Valid s.homes me.1 a × Rule (stepped s 0 k id me.1 w a) × tried (step slots 0 old new none) me n (w, carried_after me.1 a) in
+      exchanged n old new F
+      (λ hit. let d = draws slots id me idle has s r deep at small in
+      (d.0, d.1, d.2, subst (λ (k : ℕ). Rule (stepped s 0 k id me.1 d.0 d.1)) (ap (λ (k : ℕ). (k + 1) % 2 ^ 64) hit ∙ sym next) d.3, (λ _. d.4, λ no. absurd (no hit))))
+      (λ miss. (me.0, keeps, tt, unmoved s r 0 id me at, ((λ hit. absurd (miss hit)), λ _. refl)))
 
   pub looks : (slots id : ℕ) (me : Held S E) → count ≡ all_parts → me.0.stage ≡ 1 → me.1 ≡ [] → Allows Rule slots id me 1 (λ n. n) (looked journal signer (step slots 1 0 0 none) me)
   looks slots id me whole waits empty s r deep at small = let few : count < 2 ^ 64 = omega (arith, whole) in let v : View E = me.0 in let f = r.fits id v at in let q = f.queued (omega arith) in

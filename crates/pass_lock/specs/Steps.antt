@@ -63,6 +63,10 @@ module _ {S E : Type 0} where
   abbrev pub drew : Step (Option S) → Held S E → ℕ → Held S E → Type 0
   drew st m n m' = (m'.0 ≡ seeing m.0.parts m.0.made waiting m'.0.ticket) × (n ≡ m'.0.ticket % 2 ^ 64) × (m'.1 ≡ m.1)
 
+  -- a ticket was drawn where the word is what was said, and else nothing happened
+  abbrev pub tried : Step (Option S) → Held S E → ℕ → Held S E → Type 0
+  tried st m n m' = (n ≡ st.first → drew st m n m') × (n ≢ st.first → m' ≡ m)
+
   -- the value was given back, and the turn ended
   abbrev pub advanced : Step (Option S) → Held S E → ℕ → Held S E → Type 0
   advanced st m n m' = (m'.1 ≡ []) × (m'.0 ≡ seeing m.0.parts m.0.made outside m.0.ticket)

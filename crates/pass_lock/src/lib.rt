@@ -1,6 +1,6 @@
 //! A lock whose value keeps a journal that only grows, and passes that know how much of it they have seen.
 //!
-//! It is a ticket lock (Mellor-Crummey and Scott, 1991): turns are taken in the order in which tickets were drawn.
+//! Turns are numbered by tickets, and a ticket is drawn where the turn before it has ended: whoever runs then has the next turn, so no turn waits for a thread that sleeps.
 //! `Shared::enter` gives the value with a journal that begins with all that the pass has seen, and `Shared::leave` puts it back with what was added.
 //! Each entry is signed with the number of a part, and a pass owns parts: so it knows which entries its own turns made, and that no other turn made one of them.
 //! When the lock is closed, the journal is the pieces of the turns 0, 1, 2, .., each made by one pass.

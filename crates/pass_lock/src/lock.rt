@@ -12,6 +12,7 @@ use atomic_table::{Refused, Table};
 use std::alloc::Global;
 use std::marker::{Brand, Model};
 use std::sync::Wait;
+use std::sync::atomic::AtomicU64;
 
 /// How many parts all passes of a lock have together. As many passes can be in a turn, or wait for one, at once.
 const PARTS: u64 = 65536;
@@ -22,6 +23,8 @@ const PARTS: u64 = 65536;
 /// It is `Send` and `Sync` where the value is `Send`, and so is `Pass`.
 pub struct Shared<S: Chronicled> {
     table: Owned<S>,
+    /// How many threads sleep, or are about to.
+    asleep: AtomicU64,
 }
 
 impl<S: Chronicled> Model for Shared<S> {
@@ -62,7 +65,10 @@ impl<S: Chronicled + Drop> Shared<S> {
     {
         let slots = slot_of(alloc, value)?;
         match Table::new(alloc, &[0, 0, 0], slots, &PARTS) {
-            Ok((table, place)) => Ok((Shared { table }, Pass { place, ticket: 0 })),
+            Ok((table, place)) => {
+                let asleep = AtomicU64::new(0);
+                Ok((Shared { table, asleep }, Pass { place, ticket: 0 }))
+            }
             Err(Refused { mut slots }) => Err(slots.pop().unwrap().unwrap()),
         }
     }
@@ -102,9 +108,9 @@ impl<S: Chronicled + Drop> Shared<S> {
         parts::merge(&self.table.shared, &mut pass.place, place);
     }
 
-    /// Waits for the pass's turn, and gives the value. Its journal begins with all that the pass has seen.
+    /// Waits until nobody has a turn, and gives the value. Its journal begins with all that the pass has seen.
     ///
-    /// The thread sleeps while it waits. It may wait forever where another pass never leaves.
+    /// The thread looks a while, and then sleeps. It may wait forever where another pass never leaves, or others always come before it.
     pub fn enter<R: Wait>(&self, rt: &R, pass: &mut Pass<S>) -> S
         requires lock { pass.old.lock ≡ self.now }
         requires outside { pass.old.turn ≡ None }
@@ -114,7 +120,7 @@ impl<S: Chronicled + Drop> Shared<S> {
         ensures turns { InTurns (turn_number pass.new.turn) (S.journal result) pass.old.made }
         ensures pass { pass.new ≡ record pass.old { parts = brought (S.journal result) pass.old.parts; turn = Some (turn_number pass.new.turn, S.journal result) } }
     {
-        let (value, ticket) = turns::take(rt, &self.table.shared, &mut pass.place);
+        let (value, ticket) = turns::take(rt, &self.table.shared, &self.asleep, &mut pass.place);
         pass.ticket = ticket;
         value
     }
@@ -122,14 +128,20 @@ impl<S: Chronicled + Drop> Shared<S> {
     /// Ends the turn, and puts the value back, whose journal is the one that was given and then a piece that the pass's parts signed.
     /// The pass has seen all of it.
     ///
-    /// It wakes every thread that waits.
+    /// It wakes one of the threads that sleep.
     pub fn leave(&self, pass: &mut Pass<S>, value: S)
         requires lock { pass.old.lock ≡ self.now }
         requires inside { IsSome pass.old.turn }
         requires grew { Grows S.signer pass.old (S.journal value) }
         ensures { pass.new ≡ record pass.old { parts = brought (S.journal value) pass.old.parts; made = pass.old.made ++ (turn_number pass.old.turn, added (given pass.old.turn) (S.journal value)) ∷ []; turn = None } }
     {
-        turns::give(&self.table.shared, &mut pass.place, pass.ticket, value);
+        turns::give(
+            &self.table.shared,
+            &self.asleep,
+            &mut pass.place,
+            pass.ticket,
+            value,
+        );
     }
 
     /// The value, with the journal of all turns. It asks for a pass with all parts, so every other pass has been joined.
@@ -141,7 +153,7 @@ impl<S: Chronicled + Drop> Shared<S> {
         ensures signed { Signed S.signer pass.parts (S.journal result) }
         ensures turns { InTurns (length pass.made) (S.journal result) pass.made }
     {
-        let Shared { table } = self;
+        let Shared { table, asleep: _ } = self;
         let Pass { place, ticket: _ } = pass;
         parts::finish(table, place)
     }

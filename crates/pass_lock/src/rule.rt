@@ -1,10 +1,11 @@
 // The rule of the lock's table, and what each kind of step tells the seat that takes it.
 //
 // Word 0 counts the tickets drawn, word 1 the turns served, and word 2 the turns whose entries are in the history. Each counts modulo 2^64: at most 65,536 tickets are out at once, so no two of them are alike.
+// A ticket is drawn where the turn before it has ended, so whoever runs then has the next turn.
 // Slot 0 holds the value between turns.
 ghost use Rattle.std.specs.Prelude.{ℕ, List};
 ghost use Rattle.pass_lock.specs.Rule.{Kept, opened};
-ghost use Rattle.pass_lock.specs.Steps.{remaining, moving, joined, spent, drew, looked, raised, advanced};
+ghost use Rattle.pass_lock.specs.Steps.{remaining, moving, joined, spent, tried, looked, raised, advanced};
 
 use crate::chronicled::Chronicled;
 use crate::view::View;
@@ -24,7 +25,7 @@ impl<S: Chronicled> TableRule<Option<S>, View<S::Entry>, u64> for Turnstile<S> {
 pub(crate) struct Draw;
 
 impl<S, E> Play<Option<S>, View<E>> for Draw {
-    ghost then = { drew };
+    ghost then = { tried };
 }
 
 pub(crate) struct Look;
