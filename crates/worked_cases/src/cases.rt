@@ -143,8 +143,18 @@ impl Transcript {
     }
 }
 
-/// Makes these calls, and writes each with its answer.
-pub fn play_on(alloc: Global, bench: &mut dyn Bench, with: &str, calls: &[Line]) -> Result<String> {
+/// Makes these calls on a bench of their own, and writes each with its answer.
+pub fn play_on<B: Bench + Drop>(
+    alloc: Global,
+    bench: B,
+    with: &str,
+    calls: &[Line],
+) -> Result<String> {
+    let mut bench = bench;
+    make_calls(alloc, &mut bench, with, calls)
+}
+
+fn make_calls(alloc: Global, bench: &mut dyn Bench, with: &str, calls: &[Line]) -> Result<String> {
     let mut out = String::new(alloc);
     for line in calls {
         let answer = answer(alloc, bench, with, line).context(format_args!(

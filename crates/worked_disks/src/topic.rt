@@ -39,28 +39,33 @@ impl Topic for Kept {
 
     fn play(&self, alloc: Global, with: &str, calls: &[Line]) -> Result<String> {
         match self {
-            Kept::Disks => play_on(alloc, &mut DiskBench::new(alloc), with, calls),
-            Kept::Records => play_on(alloc, &mut RecordBench::new(alloc), with, calls),
-            Kept::Journals => {
-                let mut bench = Workbench::<Journal<FailDisk>>::new(alloc);
-                play_on(alloc, &mut bench, with, calls)
-            }
-            Kept::Pairs => {
-                let mut bench = Workbench::<JournalPair<FailDisk>>::new(alloc);
-                play_on(alloc, &mut bench, with, calls)
-            }
-            Kept::Registers => {
-                let mut bench = Workbench::<MetaRegister<FailDisk>>::new(alloc);
-                play_on(alloc, &mut bench, with, calls)
-            }
-            Kept::Servers => {
-                let mut bench = Workbench::<LogServer<FailDisk>>::new(alloc);
-                play_on(alloc, &mut bench, with, calls)
-            }
-            Kept::Stores => {
-                let mut bench = Workbench::<StoreBench>::new(alloc);
-                play_on(alloc, &mut bench, with, calls)
-            }
+            Kept::Disks => play_on(alloc, DiskBench::new(alloc), with, calls),
+            Kept::Records => play_on(alloc, RecordBench::new(alloc), with, calls),
+            Kept::Journals => play_on(
+                alloc,
+                Workbench::<Journal<FailDisk>>::new(alloc),
+                with,
+                calls,
+            ),
+            Kept::Pairs => play_on(
+                alloc,
+                Workbench::<JournalPair<FailDisk>>::new(alloc),
+                with,
+                calls,
+            ),
+            Kept::Registers => play_on(
+                alloc,
+                Workbench::<MetaRegister<FailDisk>>::new(alloc),
+                with,
+                calls,
+            ),
+            Kept::Servers => play_on(
+                alloc,
+                Workbench::<LogServer<FailDisk>>::new(alloc),
+                with,
+                calls,
+            ),
+            Kept::Stores => play_on(alloc, Workbench::<StoreBench>::new(alloc), with, calls),
         }
     }
 }

@@ -225,18 +225,16 @@ impl LogletBench {
         match self.kind {
             Kind::File => self.ask_file(alloc, question),
             Kind::Native(servers) => {
-                let mut loglet = native_of(alloc, servers, self.room()?)?;
-                answer(alloc, &mut loglet, &self.calls, question)
+                let loglet = native_of(alloc, servers, self.room()?)?;
+                answer_on(alloc, loglet, &self.calls, question)
             }
             Kind::Striped => {
-                let mut loglet = two_files(alloc, self.room()?)?;
-                answer(alloc, &mut loglet, &self.calls, question)
+                let loglet = two_files(alloc, self.room()?)?;
+                answer_on(alloc, loglet, &self.calls, question)
             }
             Kind::Nested => {
-                let first = two_files(alloc, self.room()?)?;
-                let second = two_files(alloc, self.room()?)?;
-                let mut loglet = pair(alloc, first, second)?;
-                answer(alloc, &mut loglet, &self.calls, question)
+                let loglet = two_pairs(alloc, self.room()?)?;
+                answer_on(alloc, loglet, &self.calls, question)
             }
         }
     }
@@ -349,6 +347,19 @@ fn answer(
     }
 }
 
+/// The same, on a loglet that is let go of then.
+fn answer_on<L: Loglet>(
+    alloc: Global,
+    loglet: L,
+    calls: &Calls,
+    question: Question,
+) -> Result<String>
+    requires { IsClosed (L.view loglet) }
+{
+    let mut loglet = loglet;
+    answer(alloc, &mut loglet, calls, question)
+}
+
 /// A number of a loglet, by its name.
 fn number_of(alloc: Global, loglet: &dyn Loglet, name: &str) -> Result<String> {
     match name {
@@ -384,6 +395,16 @@ fn two_files(alloc: Global, room: u64) -> Result<StripedLoglet<FileLoglet<MemDis
 {
     let first = file::in_memory(alloc, room)?;
     let second = file::in_memory(alloc, room)?;
+    pair(alloc, first, second)
+}
+
+/// A striped loglet of two of those.
+fn two_pairs(alloc: Global, room: u64) -> Result<StripedLoglet<StripedLoglet<FileLoglet<MemDisk>>>>
+    requires { (1 ≤ room) × (room ≤ 2 ^ 32) }
+    ensures { IfOk result (λ made. IsFresh made.loglet) }
+{
+    let first = two_files(alloc, room)?;
+    let second = two_files(alloc, room)?;
     pair(alloc, first, second)
 }
 

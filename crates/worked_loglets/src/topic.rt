@@ -25,9 +25,9 @@ impl Topic for Part {
 
     fn play(&self, alloc: Global, with: &str, calls: &[Line]) -> Result<String> {
         match self {
-            Part::Loglets => play_on(alloc, &mut LogletBench::new(alloc), with, calls),
-            Part::Plans => play_on(alloc, &mut PlanBench, with, calls),
-            Part::Bags => play_on(alloc, &mut BagBench::new(alloc), with, calls),
+            Part::Loglets => play_on(alloc, LogletBench::new(alloc), with, calls),
+            Part::Plans => play_on(alloc, PlanBench, with, calls),
+            Part::Bags => play_on(alloc, BagBench::new(alloc), with, calls),
         }
     }
 }

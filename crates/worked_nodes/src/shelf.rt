@@ -104,17 +104,17 @@ pub(crate) fn fabric_on_three(
 ) -> Option<Fabric<Cell, Register, Free>>
     ensures { IfSome result (λ made. made.journal ≡ []) }
 {
-    let register = fresh_register(alloc, failing)?;
-    let first = fresh_cell(alloc)?;
-    let second = fresh_cell(alloc)?;
-    let third = fresh_cell(alloc)?;
     let mut cells = Vec::new(alloc);
     if cells.reserve(3).is_err() {
         return None;
     }
+    let first = fresh_cell(alloc)?;
     cells.push_reserved(first);
+    let second = fresh_cell(alloc)?;
     cells.push_reserved(second);
+    let third = fresh_cell(alloc)?;
     cells.push_reserved(third);
+    let register = fresh_register(alloc, failing)?;
     let Ok(fabric) = Fabric::<Cell, Register, Free>::new(alloc, cells, register) else {
         return None;
     };

@@ -117,14 +117,23 @@ fn take_counted(alloc: Global, counted: &mut Counted, words: &[&str]) -> anyhow:
     Ok(())
 }
 
+/// A number of the end of the run, by its name.
+fn take_number(end: &mut End, name: &str, number: &str) -> anyhow::Result<()> {
+    match name {
+        "end" => end.end = number_in(number)?,
+        "nodes" => end.nodes = number.parse::<u8>()?,
+        "trim" => end.trim = number_in(number)?,
+        "version" => end.version = number_in(number)?,
+        "shelf" => end.shelf = number.parse::<usize>()?,
+        _ => bail!("neither a row nor an end"),
+    }
+    Ok(())
+}
+
 /// A line on the end of the run.
 fn take_end(alloc: Global, end: &mut End, words: &[&str]) -> anyhow::Result<()> {
     match words {
-        ["end", number] => end.end = number_in(number)?,
-        ["nodes", number] => end.nodes = number.parse::<u8>()?,
-        ["trim", number] => end.trim = number_in(number)?,
-        ["version", number] => end.version = number_in(number)?,
-        ["shelf", number] => end.shelf = number.parse::<usize>()?,
+        [name, number] => take_number(end, name, number)?,
         ["has", place, says @ ..] => end.items.push(item_in(alloc, place, says)?)?,
         ["seg", id, "from", start, "open"] => end.segments.push(segment_in(id, start, None)?)?,
         ["seg", id, "from", start, "to", stop] => {

@@ -31,6 +31,16 @@ impl DiskFaults {
             stop: 0,
         }
     }
+
+    /// `call 3 fails`, `calls 7 to 400 fail`, or `stops in write 2`.
+    fn take(&mut self, words: &[&str]) -> anyhow::Result<()> {
+        match words {
+            ["calls", first, "to", last, "fail"] => push_numbers(&mut self.calls, first, last)?,
+            ["stops", "in", "write", write] => self.stop = number_in(write)?,
+            _ => self.calls.push(call_in(words)?)?,
+        }
+        Ok(())
+    }
 }
 
 /// A node is held at its first pass of a point until another one has passed a point of its own.
@@ -109,39 +119,70 @@ fn push_numbers(all: &mut Vec<u64>, first: &str, last: &str) -> anyhow::Result<(
     Ok(())
 }
 
+/// `single 1 inner 1`
+fn rooms_in(words: &[&str]) -> anyhow::Result<Rooms> {
+    match words {
+        ["single", single, "inner", inner] => Ok(Rooms {
+            single: number_in(single)?,
+            inner: number_in(inner)?,
+        }),
+        _ => bail!("rooms are those of a single loglet and of an inner one"),
+    }
+}
+
+/// `8 bytes`
+fn piece_in(words: &[&str]) -> anyhow::Result<usize> {
+    match words {
+        [bytes, "bytes"] => Ok(bytes.parse::<usize>()?),
+        _ => bail!("a piece has bytes"),
+    }
+}
+
+/// `call 3 fails`
+fn call_in(words: &[&str]) -> anyhow::Result<u64> {
+    match words {
+        ["call", call, "fails"] => number_in(call),
+        _ => bail!("no call that fails"),
+    }
+}
+
+/// `n1 appending until n2 placed`
+fn hold_in(words: &[&str]) -> anyhow::Result<Hold> {
+    match words {
+        [node, point, "until", other, until] => Ok(Hold {
+            node: node_in(node)?,
+            point: point_in(point)?,
+            other: node_in(other)?,
+            until: point_in(until)?,
+        }),
+        _ => bail!("a node is held at a point until another has passed one"),
+    }
+}
+
+/// What a condition says, word by word.
+fn change(setup: &mut Setup, what: &str, words: &[&str]) -> anyhow::Result<()> {
+    match what {
+        "rooms" => setup.rooms = rooms_in(words)?,
+        "pieces" => setup.piece = piece_in(words)?,
+        "source" => setup.source_fails.push(call_in(words)?)?,
+        "sink" => setup.sink_fails.push(call_in(words)?)?,
+        "disk of n1" => setup.faults.take(words)?,
+        "held" => setup.hold = Some(hold_in(words)?),
+        _ => bail!("no condition of a run: `{what}`"),
+    }
+    Ok(())
+}
+
 /// A line above the command line: what of the run isn't as always.
 fn take_condition(alloc: Global, setup: &mut Setup, line: &str) -> anyhow::Result<()> {
-    let words = words_of(alloc, line)?;
-    match words.as_slice() {
-        ["rooms:", "single", single, "inner", inner] => {
-            setup.rooms = Rooms {
-                single: number_in(single)?,
-                inner: number_in(inner)?,
-            };
+    match line {
+        "loglets: counted" => setup.is_counted = true,
+        "told: the status alone" => setup.is_silent = true,
+        _ => {
+            let (what, said) = line.split_once(": ").unwrap_or((line, ""));
+            let words = words_of(alloc, said)?;
+            change(setup, what, words.as_slice())?;
         }
-        ["pieces:", bytes, "bytes"] => setup.piece = bytes.parse::<usize>()?,
-        ["source:", "call", call, "fails"] => setup.source_fails.push(number_in(call)?)?,
-        ["sink:", "call", call, "fails"] => setup.sink_fails.push(number_in(call)?)?,
-        ["disk", "of", "n1:", "call", call, "fails"] => {
-            setup.faults.calls.push(number_in(call)?)?;
-        }
-        ["disk", "of", "n1:", "calls", first, "to", last, "fail"] => {
-            push_numbers(&mut setup.faults.calls, first, last)?;
-        }
-        ["disk", "of", "n1:", "stops", "in", "write", write] => {
-            setup.faults.stop = number_in(write)?;
-        }
-        ["loglets:", "counted"] => setup.is_counted = true,
-        ["told:", "the", "status", "alone"] => setup.is_silent = true,
-        ["held:", node, point, "until", other, until] => {
-            setup.hold = Some(Hold {
-                node: node_in(node)?,
-                point: point_in(point)?,
-                other: node_in(other)?,
-                until: point_in(until)?,
-            });
-        }
-        _ => bail!("no condition of a run: `{line}`"),
     }
     Ok(())
 }

@@ -26,8 +26,8 @@ impl Topic for Part {
 
     fn play(&self, alloc: Global, with: &str, calls: &[Line]) -> Result<String> {
         match self {
-            Part::Gates => play_on(alloc, &mut GateBench::new(), with, calls),
-            _ => play_on(alloc, &mut WorldBench::new(alloc)?, with, calls),
+            Part::Gates => play_on(alloc, GateBench::new(), with, calls),
+            _ => play_on(alloc, WorldBench::new(alloc)?, with, calls),
         }
     }
 }
