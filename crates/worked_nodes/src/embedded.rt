@@ -39,6 +39,10 @@ pub(crate) fn put_and_get<E: Layers>(
     let Some(two) = Two::new(alloc, engines, store, other_engines, other_store) else {
         return Err(Stuck::Failed);
     };
+    play(alloc, two, out)
+}
+
+fn play<E: Layers>(alloc: Global, two: Two<E, MemDisk>, out: &mut String) -> Result<(), Stuck> {
     let mut first = two;
     put(alloc, &mut first)?;
     let mut second = first.turned();
