@@ -154,7 +154,12 @@ pub fn play_on<B: Bench + Drop>(
     make_calls(alloc, &mut bench, with, calls)
 }
 
-fn make_calls(alloc: Global, bench: &mut dyn Bench, with: &str, calls: &[Line]) -> Result<String> {
+fn make_calls<B: Bench>(
+    alloc: Global,
+    bench: &mut B,
+    with: &str,
+    calls: &[Line],
+) -> Result<String> {
     let mut out = String::new(alloc);
     for line in calls {
         let answer = answer(alloc, bench, with, line).context(format_args!(
@@ -170,7 +175,7 @@ fn make_calls(alloc: Global, bench: &mut dyn Bench, with: &str, calls: &[Line]) 
     Ok(out)
 }
 
-fn answer(alloc: Global, bench: &mut dyn Bench, with: &str, line: &Line) -> Result<String> {
+fn answer<B: Bench>(alloc: Global, bench: &mut B, with: &str, line: &Line) -> Result<String> {
     let mut words = Vec::new(alloc);
     for word in line.text.split_whitespace() {
         words.push(value_of(word, with)?)?;

@@ -224,18 +224,9 @@ impl LogletBench {
     fn ask(&self, alloc: Global, question: Question) -> Result<String> {
         match self.kind {
             Kind::File => self.ask_file(alloc, question),
-            Kind::Native(servers) => {
-                let loglet = native_of(alloc, servers, self.room()?)?;
-                answer_on(alloc, loglet, &self.calls, question)
-            }
-            Kind::Striped => {
-                let loglet = two_files(alloc, self.room()?)?;
-                answer_on(alloc, loglet, &self.calls, question)
-            }
-            Kind::Nested => {
-                let loglet = two_pairs(alloc, self.room()?)?;
-                answer_on(alloc, loglet, &self.calls, question)
-            }
+            Kind::Native(servers) => self.ask_native(alloc, servers, question),
+            Kind::Striped => self.ask_striped(alloc, question),
+            Kind::Nested => self.ask_nested(alloc, question),
         }
     }
 
@@ -246,6 +237,21 @@ impl LogletBench {
             bail!("no loglet has so much room");
         }
         Ok(self.room)
+    }
+
+    fn ask_native(&self, alloc: Global, servers: u64, question: Question) -> Result<String> {
+        let mut loglet = native_of(alloc, servers, self.room()?)?;
+        answer(alloc, &mut loglet, &self.calls, question)
+    }
+
+    fn ask_striped(&self, alloc: Global, question: Question) -> Result<String> {
+        let mut loglet = two_files(alloc, self.room()?)?;
+        answer(alloc, &mut loglet, &self.calls, question)
+    }
+
+    fn ask_nested(&self, alloc: Global, question: Question) -> Result<String> {
+        let mut loglet = two_pairs(alloc, self.room()?)?;
+        answer(alloc, &mut loglet, &self.calls, question)
     }
 
     fn ask_file(&self, alloc: Global, question: Question) -> Result<String> {
@@ -345,19 +351,6 @@ fn answer(
         (Question::Bytes, _) => bail!("only a file loglet gives its disk"),
         (_, None) => bail!("no call was made"),
     }
-}
-
-/// The same, on a loglet that is let go of then.
-fn answer_on<L: Loglet>(
-    alloc: Global,
-    loglet: L,
-    calls: &Calls,
-    question: Question,
-) -> Result<String>
-    requires { IsClosed (L.view loglet) }
-{
-    let mut loglet = loglet;
-    answer(alloc, &mut loglet, calls, question)
 }
 
 /// A number of a loglet, by its name.
