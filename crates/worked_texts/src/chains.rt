@@ -1,4 +1,6 @@
 //! Chains in bytes, places in them, and their steps.
+ghost use Rattle.chain_map.specs.Chain.{IsChain};
+
 use crate::text::{numbers_in, print_bytes, read_bytes, unknown};
 use chain_map::{Located, decode_chain, drop_below, encode_chain, extend, first_chain, locate};
 use delos_types::chain::Chain;
@@ -27,7 +29,9 @@ fn print_located(rt: &HostRuntime, pos: u64, located: Located) -> io::Result<()>
 }
 
 /// A chain in bytes, behind a label.
-fn print_spelled(rt: &HostRuntime, label: &str, chain: &Chain) -> io::Result<()> {
+fn print_spelled(rt: &HostRuntime, label: &str, chain: &Chain) -> io::Result<()>
+    requires { IsChain chain.now }
+{
     print_bytes(rt, label, encode_chain(rt.alloc(), chain)?.as_slice())
 }
 
