@@ -23,7 +23,7 @@ use Rattle.run_laws.specs.Ended.{Fault, pays, most_faults}
 use Rattle.node_course.specs.Script.{asked_before, failure_of_look, failed_looks}
 use Rattle.node_course.specs.Moments.{NodeCourse, GoesOn, moment, at_node}
 use Rattle.node_course.specs.Played.{Came, went_further}
-use Rattle.node_course.specs.Course.{CourseOk}
+use Rattle.node_course.specs.Course.{IsCourse}
 use Rattle.node_course.specs.Replacing.{Replaced}
 use Rattle.node_course.specs.Telling.{AreTold, HasToldSo, IsTrim, AsksBehind}
 use Rattle.node_course.proofs.Events.{faults_on}
@@ -81,7 +81,7 @@ came_here n phase (k ∷ came) = (refl, came_here n phase came)
 pub count_at_node : (n : ℕ) (kind : Cause → Bool) (ks : List Cause) → count_by (at_node n kind n) ks ≡ count_by kind ks
 count_at_node n kind ks = ap (λ b. count_by (λ k. b && kind k) ks) (eq-eqb n n refl)
 
-module _ (law : Law) (lines : List NamedLine) (nodes n : ℕ) (c : NodeCourse) (looks : List (Option Looked)) (ok : CourseOk law lines nodes n c looks) where
+module _ (law : Law) (lines : List NamedLine) (nodes n : ℕ) (c : NodeCourse) (looks : List (Option Looked)) (ok : IsCourse law lines nodes n c looks) where
   -- in what follows the course goes on in its phase
   module _ (c' : NodeCourse) (goes : GoesOn c c') (legal : IsLegal law c'.seen) where
     pub grown : Grown law c c'
@@ -112,7 +112,7 @@ module _ (law : Law) (lines : List NamedLine) (nodes n : ℕ) (c : NodeCourse) (
           → ((i : ℕ) (l : NamedLine) (look : Looked) → Came lines looks' n i l look → HasToldSo (moment c' (l.phase + 1)) n look)
           → ((j : ℕ) (l : NamedLine) (trim : ℕ) → Came lines looks' n j l (looked.Trimmed trim) → IsTrim lines looks' nodes n c' j l trim)
           → ReportsHold lines looks' n c'
-          → CourseOk law lines nodes n c' looks'
+          → IsCourse law lines nodes n c' looks'
       advance size events ahead replaced seals told behind stand trims reports = record {
         legal = legal;
         long = long;
@@ -135,7 +135,7 @@ module _ (law : Law) (lines : List NamedLine) (nodes n : ℕ) (c : NodeCourse) (
       pub advance_back : CameBack lines looks looks' n → went_further n lines looks' ≡ went_further n lines looks → length looks' ≡ length looks
           → ((kind : Cause → Bool) → kind cause.Store ≡ false → failed_looks (at_node n kind) lines looks' + count_by (λ f. kind f.cause) c'.faults ≤ count_by kind (faults_of n c'.seen))
           → (faults_of n c'.seen ≡ [] → own_seals n c'.seen ≤ went_further n lines looks')
-          → AreTold lines looks' n c'.seen → AsksBehind n c'.seen → CourseOk law lines nodes n c' looks'
+          → AreTold lines looks' n c'.seen → AsksBehind n c'.seen → IsCourse law lines nodes n c' looks'
       advance_back back same size events seals told behind = advance size events (λ i l look come. ok.ahead i l look (back i l look come))
           (replaced_on law c c' grown lines looks n ok.ahead ok.replaced looks' back same)
           seals told behind

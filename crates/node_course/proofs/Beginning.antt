@@ -17,7 +17,7 @@ use Rattle.node_lines.proofs.Own.{own_may}
 use Rattle.run_laws.specs.Ended.{CameTo, session_in}
 use Rattle.node_course.specs.Script.{BeginsAt, asked_before}
 use Rattle.node_course.specs.Moments.{NodeCourse, moment, next_phase}
-use Rattle.node_course.specs.Course.{CourseOk}
+use Rattle.node_course.specs.Course.{IsCourse}
 use Rattle.node_course.specs.Workers.{Rests}
 use Rattle.node_course.proofs.Asking.{asked_early}
 use Rattle.node_course.proofs.Held.{hold_on}
@@ -32,7 +32,7 @@ module _ (law : Law) (meaning : Meaning) (lines : List NamedLine) (home : ℕ �
   abbrev then' : NodeCourse
   then' = next_phase c
 
-  abbrev ok : CourseOk law lines nodes n c looks
+  abbrev ok : IsCourse law lines nodes n c looks
   ok = r.node.did
 
   grown : Grown law c then'
@@ -66,7 +66,7 @@ module _ (law : Law) (meaning : Meaning) (lines : List NamedLine) (home : ℕ �
           let same : c.phase + 1 ≡ p = omega (arith, low, high) in
           subst (λ k. q ≤ asked_before lines s k) same (now s q e (subst (λ m. Contains (appended_by n m) e) (moment_now c p (let long = ok.long in omega (arith, high, long))) was) has)
 
-  did : CourseOk law lines nodes n then' looks
+  did : IsCourse law lines nodes n then' looks
   did = record {
     legal = ok.legal;
     long = length-append c.begins (c.seen ∷ []) ∙ ap (λ k. k + 1) ok.long;

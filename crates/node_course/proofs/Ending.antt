@@ -37,7 +37,7 @@ use Rattle.run_laws.specs.Ended.{CameTo, rank_in, session_in}
 use Rattle.run_laws.proofs.Members.{Among, among-right}
 use Rattle.node_course.specs.Script.{AreLines, BeginsAt}
 use Rattle.node_course.specs.Moments.{NodeCourse, GoesOn, tails}
-use Rattle.node_course.specs.Course.{CourseOk}
+use Rattle.node_course.specs.Course.{IsCourse}
 use Rattle.node_course.specs.Desks.{DeskAt, HasActed, IsUpTo, LoggedSo, PlayedSo, WasEnded}
 use Rattle.node_course.specs.Workers.{HasRested, NodeAt}
 use Rattle.node_course.proofs.Legal.{worker_legal}
@@ -156,7 +156,7 @@ module _ (law : Law) (meaning : Meaning) (run : MayRun law) (lines : List NamedL
   told_by : (kind : Cause → Bool) → kind cause.Store ≡ false → count_by kind came ≤ count_by kind (faults_of n does.ends.moves.goes.spends.more)
   told_by kind store = subst (λ who. count_by kind came ≤ count_by kind (faults_of who does.ends.moves.goes.spends.more)) before.ok.who_is (does.ends.moves.goes.spends.events kind store)
 
-  did : CourseOk law lines nodes n then' looks
+  did : IsCourse law lines nodes n then' looks
   did = did_still law lines nodes n c looks before.did came journal does.ends.moves.goes.spends.more when' seen_more legal told_by still tells.told (tells.stays before.did.behind)
 
   -- the desk of before

@@ -17,7 +17,7 @@ use Rattle.node_lines.specs.Workers.{IsOfSessions, MayRun, OwnAdds, OwnWithin, W
 use Rattle.run_laws.specs.Ended.{CameTo, session_in}
 use Rattle.node_course.specs.Script.{BeginsAt}
 use Rattle.node_course.specs.Moments.{NodeCourse, GoesOn}
-use Rattle.node_course.specs.Course.{CourseOk}
+use Rattle.node_course.specs.Course.{IsCourse}
 use Rattle.node_course.specs.Desks.{DeskAt, PlayedSo}
 use Rattle.node_course.specs.Workers.{Rests, HasRested}
 use Rattle.node_course.proofs.Legal.{worker_legal}
@@ -36,7 +36,7 @@ module _ (law : Law) (meaning : Meaning) (run : MayRun law) (lines : List NamedL
   tells : TellsOn lines looks n seat.node.replica.cursor seat'.node.replica.cursor c.seen journal
   tells = tells_still law run lines looks n c.seen journal moves.goes.spends.more moves.goes.spends.seen legal seat.node.replica.cursor seat'.node.replica.cursor moves.goes.keeps.forward r.node.did.told adds
 
-  did : CourseOk law lines nodes n then' looks
+  did : IsCourse law lines nodes n then' looks
   did = did_still law lines nodes n c looks r.node.did [] journal moves.goes.spends.more c.when moves.goes.spends.seen legal (λ kind store. omega arith) still tells.told (tells.stays r.node.did.behind)
 
   goes : GoesOn c then'

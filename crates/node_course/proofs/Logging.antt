@@ -26,7 +26,7 @@ use Rattle.run_laws.proofs.Members.{among-right, contained-among}
 use Rattle.run_laws.proofs.Placing.{same_some}
 use Rattle.node_course.specs.Script.{AreLines, asked_by}
 use Rattle.node_course.specs.Moments.{NodeCourse, GoesOn}
-use Rattle.node_course.specs.Course.{CourseOk}
+use Rattle.node_course.specs.Course.{IsCourse}
 use Rattle.node_course.specs.Desks.{DeskAt, LoggedSo, PlayedSo}
 use Rattle.node_course.specs.Workers.{LineWent, NodeAt}
 use Rattle.node_course.proofs.Legal.{worker_legal}
@@ -60,7 +60,7 @@ module _ (law : Law) (meaning : Meaning) (run : MayRun law) (lines : List NamedL
   told_by : (kind : Cause → Bool) → kind cause.Store ≡ false → count_by kind came ≤ count_by kind (faults_of n logs.logs.goes.spends.more)
   told_by kind store = subst (λ who. count_by kind came ≤ count_by kind (faults_of who logs.logs.goes.spends.more)) before.ok.who_is (logs.logs.goes.spends.events kind store)
 
-  did : CourseOk law lines nodes n then' looks
+  did : IsCourse law lines nodes n then' looks
   did = did_still law lines nodes n c looks before.did came journal logs.logs.goes.spends.more c.when logs.logs.goes.spends.seen legal told_by still tells.told (tells.stays before.did.behind)
 
   at_home : home session.id ≡ n

@@ -16,7 +16,7 @@ use Rattle.run_laws.specs.Ended.{CameTo, pays}
 use Rattle.node_course.specs.Script.{asked_by, failure_of_look, failed_looks}
 use Rattle.node_course.specs.Moments.{at_node, first_course, moment}
 use Rattle.node_course.specs.Played.{Came, goes_further, went_further}
-use Rattle.node_course.specs.Course.{CourseOk}
+use Rattle.node_course.specs.Course.{IsCourse}
 use Rattle.node_course.specs.Workers.{HasNotBegun, Rests}
 use Rattle.node_course.proofs.Legal.{worker_legal}
 use Rattle.node_course.proofs.Keeping.{own_upto}
@@ -68,7 +68,7 @@ module _ (law : Law) (meaning : Meaning) (lines : List NamedLine) (home : ℕ �
   never : (i : ℕ) (l : NamedLine) (look : Looked) → Came lines looks n i l look → ⊥
   never i l look come = no_look look (sym (none_there lines looks i l size none come.is) ∙ come.looked)
 
-  did : CourseOk law lines nodes n first_course looks
+  did : IsCourse law lines nodes n first_course looks
   did = record {
     legal = worker_legal law meaning n [] seat desks ok;
     long = refl;

@@ -38,7 +38,7 @@ use Rattle.node_course.specs.Script.{AreLines, asked_by, failed_looks}
 use Rattle.node_course.specs.Moments.{NodeCourse, GoesOn, moment, at_node}
 use Rattle.node_course.specs.Played.{Came, went_further}
 use Rattle.node_course.specs.Behind.{ReportsHold, WasReported}
-use Rattle.node_course.specs.Course.{CourseOk}
+use Rattle.node_course.specs.Course.{IsCourse}
 use Rattle.node_course.specs.Reporting.{StandsThere}
 use Rattle.node_lines.specs.Turns.{IsAnswered}
 use Rattle.node_course.specs.Desks.{DeskAt, PlayedSo}
@@ -205,7 +205,7 @@ module _ (law : Law) (meaning : Meaning) (lines : List NamedLine) (home : ℕ �
   told_by : (kind : Cause → Bool) → kind cause.Store ≡ false → count_by kind (causes_of moves.goes.given others) ≤ count_by kind (faults_of n moves.goes.spends.more)
   told_by kind store = subst (λ who. count_by kind (causes_of moves.goes.given others) ≤ count_by kind (faults_of who moves.goes.spends.more)) was.ok.who_is (moves.goes.spends.events kind store)
 
-  did : CourseOk law lines nodes n then' looks'
+  did : IsCourse law lines nodes n then' looks'
   did = advance law lines nodes n c looks was.did then' goes legal
       (here_then law lines nodes n c looks was.did came journal moves.goes.spends.more c.when moves.goes.spends.seen) looks' size
       (λ kind store. events_then law lines nodes n c looks was.did came journal moves.goes.spends.more c.when moves.goes.spends.seen looks' kind store

@@ -20,7 +20,7 @@ use Rattle.node_lines.proofs.Staying.{worker_stays}
 use Rattle.run_laws.specs.Ended.{session_in}
 use Rattle.node_course.specs.Script.{failed_looks}
 use Rattle.node_course.specs.Moments.{NodeCourse, GoesOn, and_then, at_node}
-use Rattle.node_course.specs.Course.{CourseOk}
+use Rattle.node_course.specs.Course.{IsCourse}
 use Rattle.node_course.specs.Desks.{DeskAt, PlayedSo}
 use Rattle.node_course.specs.Workers.{NodeAt}
 use Rattle.node_course.proofs.Counted.{failed_same, node_only, store_only}
@@ -62,7 +62,7 @@ module _ (law : Law) (meaning : Meaning) (lines : List NamedLine) (home : ℕ �
   failed : (kind : Cause → Bool) → failed_looks (at_node n kind) lines looks' ≡ failed_looks (at_node n kind) lines looks
   failed kind = failed_same (at_node n kind) n (λ m k other. node_only n kind m k other) lines looks looks' size same
 
-  did : CourseOk law lines nodes n then' looks'
+  did : IsCourse law lines nodes n then' looks'
   did = advance_back law lines nodes n c looks was.did then' goes legal was.did.here looks' (same_back lines looks looks' n same) (further_same n lines looks looks' size same) size
       (λ kind store.
       let before = was.did.events kind store in

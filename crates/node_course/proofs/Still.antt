@@ -12,7 +12,7 @@ use Rattle.node_lines.specs.declared.lines.Looked.{Looked}
 use Rattle.node_lines.specs.Workers.{IsOfSessions, MayRun, OwnAdds}
 use Rattle.node_course.specs.Moments.{NodeCourse}
 use Rattle.node_course.specs.Played.{went_further}
-use Rattle.node_course.specs.Course.{CourseOk}
+use Rattle.node_course.specs.Course.{IsCourse}
 use Rattle.node_course.specs.Telling.{AreTold, AsksBehind}
 use Rattle.node_course.proofs.Told.{TellsOn, tells_commands}
 use Rattle.node_course.proofs.Seals.{seals_still}
@@ -23,10 +23,10 @@ pub tells_still : (law : Law) → MayRun law → (lines : List NamedLine) (looks
 tells_still law run lines looks n old new more seen legal cursor cursor' up told adds =
     tells_commands law old new (more, seen) legal lines looks looks n (λ i l look come. come) run cursor cursor' up told adds
 
-pub did_still : (law : Law) (lines : List NamedLine) (nodes n : ℕ) (c : NodeCourse) (looks : List (Option Looked)) → CourseOk law lines nodes n c looks
+pub did_still : (law : Law) (lines : List NamedLine) (nodes n : ℕ) (c : NodeCourse) (looks : List (Option Looked)) → IsCourse law lines nodes n c looks
     → (came : List Cause) (journal more : List Event) (when : ℕ → ℕ) → journal ≡ c.seen ++ more → IsLegal law journal
     → ((kind : Cause → Bool) → kind cause.Store ≡ false → count_by kind came ≤ count_by kind (faults_of n more))
-    → SealsNone n c.seen journal → AreTold lines looks n journal → AsksBehind n journal → CourseOk law lines nodes n (advanced c n came journal when) looks
+    → SealsNone n c.seen journal → AreTold lines looks n journal → AsksBehind n journal → IsCourse law lines nodes n (advanced c n came journal when) looks
 did_still law lines nodes n c looks ok came journal more when seen legal told_by still told behind =
     advance_back law lines nodes n c looks ok (advanced c n came journal when) (advanced_on c n came journal more when seen) legal
     (here_then law lines nodes n c looks ok came journal more when seen) looks (λ i l look come. come) refl refl

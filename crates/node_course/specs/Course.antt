@@ -23,7 +23,7 @@ use Rattle.node_course.specs.Telling.{AreTold, HasToldSo, AsksBehind, IsTrim}
 -- The course of node n: each moment begins the next, and what the node appended by then lines of earlier phases ask; each fault that
 -- came to it had an event of its own; what its lines did to the chain; and what it told of itself. `looks` is what each line's own
 -- look came to, by the numbers of lines; of it the node's own lines' alone are meant.
-pub record CourseOk (law : Law) (lines : List NamedLine) (nodes n : ℕ) (c : NodeCourse) (looks : List (Option Looked)) : Type 0 where
+pub record IsCourse (law : Law) (lines : List NamedLine) (nodes n : ℕ) (c : NodeCourse) (looks : List (Option Looked)) : Type 0 where
   pub legal : IsLegal law c.seen
   pub long : length c.begins ≡ c.phase + 1
   pub rise : (p : ℕ) → Grows (moment c p) (moment c (p + 1))

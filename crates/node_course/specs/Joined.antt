@@ -14,7 +14,7 @@ use Rattle.run_laws.specs.Ended.{Fault}
 use Rattle.node_course.specs.Moments.{NodeCourse}
 use Rattle.node_course.specs.Played.{Came}
 use Rattle.node_course.specs.Telling.{IsReportedBehind, StaysBelow}
-use Rattle.node_course.specs.Course.{CourseOk}
+use Rattle.node_course.specs.Course.{IsCourse}
 
 -- the faults that came to the first nodes, of which each has its own course
 abbrev pub faults_to : (ℕ → NodeCourse) → ℕ → List Fault
@@ -32,7 +32,7 @@ pub record IsPartOf (home : ℕ → ℕ) (n : ℕ) (run c : NodeCourse) : Type 0
 pub record AreJoined (law : Law) (lines : List NamedLine) (home : ℕ → ℕ) (nodes : ℕ) (run : NodeCourse) (looks : List (Option Looked)) (courses : ℕ → NodeCourse) : Type 0 where
   pub faults : run.faults ≡ faults_to courses nodes
   pub part : (n : ℕ) → 1 ≤ n → n ≤ nodes → IsPartOf home n run (courses n)
-  pub did : (n : ℕ) → 1 ≤ n → n ≤ nodes → CourseOk law lines nodes n (courses n) looks
+  pub did : (n : ℕ) → 1 ≤ n → n ≤ nodes → IsCourse law lines nodes n (courses n) looks
 
 -- only nodes append what says anything
 abbrev pub AreOfNodes : (ℕ → Entry → Type 0) → ℕ → Type 0

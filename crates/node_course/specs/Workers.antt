@@ -21,14 +21,14 @@ use Rattle.legal_journal.specs.Law.{Law}
 use Rattle.legal_journal.specs.declared.events.Event.{Event}
 use Rattle.journal_laws.specs.Changes.{TrimsUpTo}
 use Rattle.node_course.specs.Moments.{NodeCourse, GoesOn}
-use Rattle.node_course.specs.Course.{CourseOk}
+use Rattle.node_course.specs.Course.{IsCourse}
 use Rattle.node_course.specs.Desks.{DeskAt, PlayedSo}
 
 -- Of node n: its lines up to `at` were played, of which those of the present phase begin at `from`. The phases below `done` have
 -- ended there.
 pub record NodeAt (law : Law) (meaning : Meaning) (lines : List NamedLine) (home : ℕ → ℕ) (nodes : ℕ) (c : NodeCourse) (looks : List (Option Looked)) (n from at done : ℕ) (seat : SeatView) (desks : List Desk) : Type 0 where
   pub ok : WorkerOk law meaning n c.seen seat desks
-  pub did : CourseOk law lines nodes n c looks
+  pub did : IsCourse law lines nodes n c looks
   pub nodes_is : seat.node.nodes ≡ nodes
   pub order : from ≤ at
   -- no line of a phase to come was played

@@ -31,7 +31,7 @@ use Rattle.node_lines.proofs.Own.{legal_own, own_may}
 use Rattle.run_laws.specs.Ended.{CameTo}
 use Rattle.node_course.specs.Script.{AreLines}
 use Rattle.node_course.specs.Moments.{NodeCourse}
-use Rattle.node_course.specs.Course.{CourseOk}
+use Rattle.node_course.specs.Course.{IsCourse}
 use Rattle.node_course.specs.Joined.{AreJoined, faults_to}
 use Rattle.node_course.specs.Desks.{PlayedSo}
 use Rattle.node_course.specs.Workers.{Rests}
@@ -131,11 +131,11 @@ module _ {A : Type 0} (law : Law) (meaning : Meaning) (lines : List NamedLine) (
       long : length front.log ≡ cursor
       long = front.size ∙ m.at some best.0 best.1
 
-      did : (n : ℕ) → 1 ≤ n → n ≤ length workers → CourseOk law lines (length workers) n (h.courses n) looks
+      did : (n : ℕ) → 1 ≤ n → n ≤ length workers → IsCourse law lines (length workers) n (h.courses n) looks
       did n least most =
           let w = some_at workers (n - 1) (omega (arith, least, most)) in
           let same : n - 1 + 1 ≡ n = omega (arith, least) in
-          subst (λ k. CourseOk law lines (length workers) k (h.courses k) looks) same (h.each (n - 1) w.0 w.1).node.did
+          subst (λ k. IsCourse law lines (length workers) k (h.courses k) looks) same (h.each (n - 1) w.0 w.1).node.did
 
   module _ (node cursor k : ℕ) (h : CrewTakes law meaning lines node cursor k journal looks seat desks workers) where
     rest_of : (j : ℕ) (w : A) → slice_get workers j ≡ Some w → (was : List Desk) × Rests law meaning lines h.home (length workers) (h.courses (j + 1)) looks (j + 1) (length lines) (h.courses (j + 1)).phase (seat w) was

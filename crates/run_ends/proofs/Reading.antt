@@ -25,7 +25,7 @@ use Rattle.turn_scopes.specs.Alone.{AreOwn}
 use Rattle.node_lines.specs.declared.lines.Looked.{Looked}
 use Rattle.run_laws.proofs.Members.{Among, contained-among, contains-among}
 use Rattle.node_course.specs.Moments.{NodeCourse, and_then}
-use Rattle.node_course.specs.Course.{CourseOk}
+use Rattle.node_course.specs.Course.{IsCourse}
 use Rattle.node_course.specs.Joined.{faults_to}
 use Rattle.node_course.specs.Telling.{AreBehind, IsBehind}
 use Rattle.node_course.specs.Workers.{NodeAt}
@@ -165,7 +165,7 @@ module _ (law : Law) (meaning : Meaning) (lines : List NamedLine) (journal more 
     closed : WorkerClosed law meaning lines h.home (length workers) (courses n) looks log n w
     closed = record { was = k.was; rests = record { node = stays; none_given = k.rests.none_given }; short = k.short; size = k.size; each = k.each }
 
-  did : (n : ℕ) → 1 ≤ n → n ≤ length workers → CourseOk law lines (length workers) n (courses n) looks
+  did : (n : ℕ) → 1 ≤ n → n ≤ length workers → IsCourse law lines (length workers) n (courses n) looks
   did n least most =
       let w = some_at workers (n - 1) (omega (arith, least, most)) in
       let same : n - 1 + 1 ≡ n = omega (arith, least) in
