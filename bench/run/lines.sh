@@ -2,14 +2,14 @@
 
 default_shelf=file,native3,striped2,native5
 
-# script LINES NODES: the lines of a script. Each node has a session of its own, whose lines add to one of sixteen keys; nodes take lines
-# in turn, and every hundredth line is followed by a barrier.
+# script LINES NODES [BARRIER]: the lines of a script. Each node has a session of its own, whose lines add to one of sixteen keys; nodes take
+# lines in turn, and every hundredth line, or every so many, is followed by a barrier.
 script() {
-    awk -v n="$1" -v nodes="$2" 'BEGIN {
+    awk -v n="$1" -v nodes="$2" -v barrier="${3:-100}" 'BEGIN {
         for (i = 1; i <= n; i++) {
             k = 1 + (i - 1) % nodes
             print "on n" k " s" k " add k" (i * 7) % 16 " " i % 100
-            if (i % 100 == 0) print "barrier"
+            if (i % barrier == 0) print "barrier"
         }
     }'
 }

@@ -1,10 +1,11 @@
 #!/bin/sh
 # side_by_side.sh PROGRAM [LINES [RUNS]]: commands a second of PROGRAM, the built delos_sim, over native3, with 1, 2, 4 and 8 nodes: in turn, where no
-# thread can be started (in_turn.c stands in front of the program), and side by side, each node in a thread of its own. The last number says how
-# many times as fast that is. gcc is needed.
+# thread can be started (in_turn.c stands in front of the program); side by side, each node in a thread of its own, where the system has them run; and
+# apart, where each thread has a processor of its own, as far as there are enough (apart.c). How many times as fast as in turn the last two are
+# stands behind them. `run` has a barrier behind each hundredth line, and behind each thousandth. gcc is needed.
 #
 # LINES is how many lines a script logs (15,000), RUNS how often each is measured (9): by turns, so that a while in which the machine is slow
-# spoils neither. A rate is that of the least time, less the least of as many runs that do as little as can be.
+# spoils none. A rate is that of the least time, less the least of as many runs that do as little as can be.
 set -eu
 program=$1
 lines=${2:-15000}
@@ -12,7 +13,9 @@ rounds=${3:-9}
 runs=1
 . "$(dirname "$0")/../times.sh"
 . "$(dirname "$0")/lines.sh"
-gcc -O2 -shared -fPIC -o "$work/in_turn.so" "$(dirname "$0")/in_turn.c"
+here=$(dirname "$0")
+gcc -O2 -shared -fPIC -o "$work/in_turn.so" "$here/in_turn.c"
+gcc -O2 -shared -fPIC -o "$work/apart.so" "$here/apart.c" -ldl
 
 # timed COMMAND NODES LINES FILE: the microseconds of one run
 timed() {
@@ -30,33 +33,37 @@ least() {
     awk -v place="$1" '{ print $place }' "$2" | sort -n | head -1
 }
 
-# rate FILE: commands a second
+# rate WAY: commands a second
 rate() {
-    echo $((lines * 1000000 / ($(least 1 "$1") - $(least 2 "$1"))))
+    echo $((lines * 1000000 / ($(least 1 "$work/$1") - $(least 2 "$work/$1"))))
 }
 
-# row COMMAND NODES: one row of the table
+# ratio A B: how many times A is of B, with two digits
+ratio() {
+    printf '%d.%02d' $(($1 / $2)) $(($1 * 100 / $2 % 100))
+}
+
+# row COMMAND NODES BARRIER: one row of the table
 row() {
     case $1 in
-        run) script "$lines" "$2" > "$work/script"; fewest=0 ;;
+        run) script "$lines" "$2" "$3" > "$work/script"; fewest=0 ;;
         make) : > "$work/script"; fewest=1 ;;
     esac
-    : > "$work/turn"
-    : > "$work/side"
+    for way in in_turn side apart; do : > "$work/$way"; done
     for _ in $(seq "$rounds"); do
-        (export LD_PRELOAD="$work/in_turn.so"; one_round "$1" "$2" "$fewest") >> "$work/turn"
+        (export LD_PRELOAD="$work/in_turn.so"; one_round "$1" "$2" "$fewest") >> "$work/in_turn"
         one_round "$1" "$2" "$fewest" >> "$work/side"
+        (export LD_PRELOAD="$work/apart.so"; one_round "$1" "$2" "$fewest") >> "$work/apart"
     done
-    turn=$(rate "$work/turn")
-    side=$(rate "$work/side")
-    echo "| $1 | $2 | $turn | $side | $((side * 100 / turn / 100)).$(printf %02d $((side * 100 / turn % 100))) |"
+    turn=$(rate in_turn)
+    side=$(rate side)
+    apart=$(rate apart)
+    echo "| $1 | $3 | $2 | $turn | $side | $(ratio "$side" "$turn") | $apart | $(ratio "$apart" "$turn") |"
 }
 
 : > "$work/empty"
-echo "| command | nodes | in turn | side by side | times |"
-echo "|---|---|---|---|---|"
-for command in run make; do
-    for nodes in 1 2 4 8; do
-        row "$command" "$nodes"
-    done
-done
+echo "| command | lines to a barrier | nodes | in turn | side by side | times | apart | times |"
+echo "|---|---|---|---|---|---|---|---|"
+for nodes in 1 2 4 8; do row run "$nodes" 100; done
+for nodes in 1 2 4 8; do row run "$nodes" 1000; done
+for nodes in 1 2 4 8; do row make "$nodes" ""; done

@@ -13,7 +13,6 @@ ghost use Rattle.crew_run.specs.Telling.{FitsGivenBack};
 use crate::laws::{
     a_calm_journal_tells_no_fault, a_calm_run_has_seen_all, the_chain_is_registered,
 };
-use crew_rows::rows::rows_of;
 use fate_words::chooser::Chooser;
 use fitting_run::told::Told;
 use gate_points::Gate;
@@ -24,6 +23,7 @@ use node_threads::phases::{Played, play_phases};
 use register_api::Register;
 use replica_api::replica::Replica;
 use run_closing::close::{Closed, close};
+use run_closing::rows::rows_of;
 use run_ends::ends::{
     each_segment_is_told, reads_change_nothing, what_closed_can_be_told, what_closed_has_ended,
 };

@@ -15,7 +15,7 @@ use Rattle.node_lines.specs.declared.desk.Desk.{Desk}
 use Rattle.node_lines.specs.declared.lines.Looked.{Looked}
 use Rattle.node_lines.specs.Workers.{MayRun, Grows}
 use Rattle.node_lines.proofs.Staying.{seat_later}
-use Rattle.node_course.specs.Script.{BeginsAt}
+use Rattle.node_course.specs.Script.{AreLines, BeginsAt}
 use Rattle.node_course.specs.Moments.{NodeCourse, and_then, next_phase}
 use Rattle.node_course.specs.Telling.{AreBehind, AreTold, AsksBehind}
 use Rattle.node_course.specs.Workers.{HasRested, NodeAt, Rests}
@@ -26,9 +26,26 @@ use Rattle.node_course.proofs.Passing.{phase_passed}
 use Rattle.node_course.proofs.Lines.{phase_before}
 use Rattle.node_course.proofs.Beginning.{rests_then}
 use Rattle.node_crew.specs.Turns.{HasNone}
-use Rattle.node_crew.specs.Crews.{AreAtWork, HasSeenAll, CrewEnds, CrewRests, CrewStands, SealsOfNodes}
+use Rattle.node_crew.specs.Crews.{AreAtWork, AreOfPhases, HasSeenAll, CrewRests, CrewStands, SealsOfNodes}
 use Rattle.node_crew.proofs.Playing.{KeepsOthers, others_of}
 use Rattle.node_crew.proofs.Working.{at_work_none, get_beyond, get_pushed, own_who, seals_more}
+
+-- A phase has ended, whose lines are those from `from` up to `to`, and the next one hasn't begun: each node has played its lines of it, and
+-- has seen all of the run.
+pub record CrewEnds {A : Type 0} (law : Law) (meaning : Meaning) (lines : List NamedLine) (from to : ℕ) (journal : List Event) (looks : List (Option Looked)) (seat : A → SeatView) (desks : A → List Desk) (workers : List A) : Type 0 where
+  pub home : ℕ → ℕ
+  pub courses : ℕ → NodeCourse
+  pub phase : ℕ
+  pub begins : List (List Event)
+  pub lines_are : AreLines lines home (length workers)
+  pub starts : BeginsAt lines from phase
+  pub ends : BeginsAt lines to (phase + 1)
+  pub long : length begins ≡ phase + 1
+  pub made : AreOfPhases lines phase begins journal
+  pub seals : SealsOfNodes (length workers) journal
+  pub behind : AreBehind journal
+  pub seen : (n : ℕ) → 1 ≤ n → n ≤ length workers → HasSeenAll phase begins journal (courses n)
+  pub each : (j : ℕ) (w : A) → slice_get workers j ≡ Some w → Rests law meaning lines home (length workers) (courses (j + 1)) looks (j + 1) to (phase + 1) (seat w) (desks w)
 
 -- an element is taken out, and another put in its place
 pub put_back : {A : Type 0} (xs : List A) (k : ℕ) (y : A) → k < length xs → insert (remove xs k) k y ≡ slice_set xs k y

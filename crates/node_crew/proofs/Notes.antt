@@ -7,7 +7,7 @@ use Rattle.fabric_core.proofs.Marks.{set_other}
 use Rattle.script_text.specs.declared.asks.NamedLine.{NamedLine}
 use Rattle.node_lines.specs.declared.lines.Looked.{Looked}
 use Rattle.node_crew.specs.declared.note.Note.{Note}
-use Rattle.node_crew.specs.Notes.{AreNotesOf, IsLineOf, NotesLine, noted}
+use Rattle.node_crew.specs.Notes.{AreNotesOf, IsOwnLine, NotesLine, noted}
 
 -- Notes
 
@@ -18,7 +18,7 @@ all_both P (x ∷ xs) ys h k = (h.0, all_both P xs ys h.1 k)
 -- of a node's notes each more is, if it is of one of the node's lines
 pub notes_more : (lines : List NamedLine) (n i : ℕ) (line : NamedLine) (old new : List Note) → slice_get lines i ≡ Some line → line.node ≡ n → NotesLine i old new → AreNotesOf lines n old → AreNotesOf lines n new
 notes_more lines n i line old new at own h before =
-    subst (AreNotesOf lines n) (sym h.is) (all_both (λ (note : Note). IsLineOf lines note.line n) old h.more before (each h.more h.at))
+    subst (AreNotesOf lines n) (sym h.is) (all_both (λ (note : Note). IsOwnLine lines note.line n) old h.more before (each h.more h.at))
   where
     each : (more : List Note) → AllByRecursion (λ (note : Note). note.line ≡ i) more → AreNotesOf lines n more
     each [] k = tt

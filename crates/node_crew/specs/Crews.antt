@@ -57,23 +57,6 @@ pub record CrewRests {A : Type 0} (law : Law) (meaning : Meaning) (lines : List 
   pub seen : (n : ℕ) → 1 ≤ n → n ≤ length workers → HasSeenAll phase begins journal (courses n)
   pub each : (j : ℕ) (w : A) → slice_get workers j ≡ Some w → Rests law meaning lines home (length workers) (courses (j + 1)) looks (j + 1) from phase (seat w) (desks w)
 
--- A phase has ended, whose lines are those from `from` up to `to`, and the next one hasn't begun: each node has played its lines of it, and
--- has seen all of the run.
-pub record CrewEnds {A : Type 0} (law : Law) (meaning : Meaning) (lines : List NamedLine) (from to : ℕ) (journal : List Event) (looks : List (Option Looked)) (seat : A → SeatView) (desks : A → List Desk) (workers : List A) : Type 0 where
-  pub home : ℕ → ℕ
-  pub courses : ℕ → NodeCourse
-  pub phase : ℕ
-  pub begins : List (List Event)
-  pub lines_are : AreLines lines home (length workers)
-  pub starts : BeginsAt lines from phase
-  pub ends : BeginsAt lines to (phase + 1)
-  pub long : length begins ≡ phase + 1
-  pub made : AreOfPhases lines phase begins journal
-  pub seals : SealsOfNodes (length workers) journal
-  pub behind : AreBehind journal
-  pub seen : (n : ℕ) → 1 ≤ n → n ≤ length workers → HasSeenAll phase begins journal (courses n)
-  pub each : (j : ℕ) (w : A) → slice_get workers j ≡ Some w → Rests law meaning lines home (length workers) (courses (j + 1)) looks (j + 1) to (phase + 1) (seat w) (desks w)
-
 -- each node can take the fabric with this journal
 abbrev pub CrewStands : {A : Type 0} → Law → Meaning → List Event → (A → SeatView) → List A → Type 0
 CrewStands {A} law meaning journal seat workers = (j : ℕ) (w : A) → slice_get workers j ≡ Some w → SeatOk law meaning journal (seat w)

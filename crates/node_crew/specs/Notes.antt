@@ -11,14 +11,14 @@ noted looks [] = looks
 noted looks (n ∷ ns) = noted (slice_set looks n.line (Some n.look)) ns
 
 -- line i is node n's
-pub record IsLineOf (lines : List NamedLine) (i n : ℕ) : Type 0 where
+pub record IsOwnLine (lines : List NamedLine) (i n : ℕ) : Type 0 where
   pub line : NamedLine
   pub is : slice_get lines i ≡ Some line
   pub own : line.node ≡ n
 
 -- they are of lines of node n
 abbrev pub AreNotesOf : List NamedLine → ℕ → List Note → Type 0
-AreNotesOf lines n notes = AllByRecursion (λ note. IsLineOf lines note.line n) notes
+AreNotesOf lines n notes = AllByRecursion (λ note. IsOwnLine lines note.line n) notes
 
 -- to what was noted comes nothing but of line i
 pub record NotesLine (i : ℕ) (old new : List Note) : Type 0 where

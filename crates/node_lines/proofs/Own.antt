@@ -15,10 +15,9 @@ use Rattle.legal_journal.specs.declared.events.FabricAnswer.TheVariants.{Begun, 
 use Rattle.legal_journal.specs.declared.events.Event.{Event}
 use Rattle.legal_journal.specs.Moves.{move, move_of}
 use Rattle.legal_journal.specs.Journal.{State, start, after, MayBegin, IsAllowed, IsLegalFrom, IsLegal}
-use Rattle.journal_laws.specs.Changes.{entry_begun, appended, Adds}
+use Rattle.journal_laws.specs.Changes.{entry_begun, appended}
 use Rattle.journal_laws.specs.Own.{own}
 use Rattle.journal_laws.proofs.Changes.{appended_stays, appended_more, appended_parts}
-use Rattle.turn_scopes.specs.Alone.{AreOwn, OwnSince}
 use Rattle.engine_api.specs.declared.content.Content.TheVariants.{Alive, Leave}
 use Rattle.engine_api.specs.declared.content.Placed.{Placed}
 use Rattle.engine_api.specs.Items.{unpack}
@@ -118,26 +117,6 @@ own_adds_trans who P a b c f g = λ e h. ⊎_elim (λ (k : Contains (appended_by
 
 pub own_adds_wider : (who : ℕ) (P Q : Entry → Type 0) (a b : List Event) → ((e : Entry) → P e → Q e) → OwnAdds who P a b → OwnAdds who Q a b
 own_adds_wider who P Q a b wider f = λ e h. ⊎_elim (λ (k : Contains (appended_by who a) e). inl k) (λ (k : P e). inr (wider e k)) (f e h)
-
-all_own : (who : ℕ) (es : List Event) (e : Entry) → AreOwn who es → Contains (appended es) e → Contains (appended_by who es) e
-all_own who [] e own h = h
-all_own who (x ∷ xs) e own h =
-    ⊎_elim
-    (λ (begun : entry_begun x.call x.answer ≡ Some e). own_at_first who x xs e own.0 begun)
-    (λ (later : Contains (appended xs) e). own_at_later who x xs e (all_own who xs e own.1 later))
-    (first_or_later x xs e h)
-
--- where each event since is who's, that is all that was added
-pub all_adds : (who : ℕ) (P : Entry → Type 0) (old new : List Event) → OwnSince who old new → OwnAdds who P old new → Adds P old new
-all_adds who P old new since adds = λ e h.
-    ⊎_elim
-    (λ (k : Contains (appended old) e). inl k)
-    (λ (k : Contains (appended since.more) e).
-    ⊎_elim
-    (λ (was : Contains (appended_by who old) e). inl (own_appended who old e was))
-    (λ (p : P e). inr p)
-    (adds e (subst (λ es. Contains (appended_by who es) e) (sym since.seen) (own_more who old since.more e (all_own who since.more e since.own k)))))
-    (appended_parts old since.more e (subst (λ es. Contains (appended es) e) since.seen h))
 
 -- By the rules
 

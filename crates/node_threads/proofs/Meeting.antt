@@ -27,10 +27,10 @@ use Rattle.node_course.specs.Workers.{Rests}
 use Rattle.node_course.proofs.Asked.{behind_joined}
 use Rattle.node_course.proofs.Lines.{phase_before}
 use Rattle.node_course.proofs.Staying.{node_stays}
-use Rattle.node_crew.specs.Crews.{AreAtWork, CrewEnds, CrewRests, CrewStands, HasSeenAll, SealsOfNodes}
+use Rattle.node_crew.specs.Crews.{AreAtWork, CrewRests, CrewStands, HasSeenAll, SealsOfNodes}
 use Rattle.node_crew.specs.Notes.{noted}
 use Rattle.node_crew.specs.Turns.{HasOne}
-use Rattle.node_crew.proofs.Crews.{crew_ends}
+use Rattle.node_crew.proofs.Crews.{CrewEnds, crew_ends}
 use Rattle.node_crew.proofs.Notes.{noted_size}
 use Rattle.node_crew.proofs.Playing.{worker_stands}
 use Rattle.node_crew.proofs.Working.{among_parts, get_beyond, get_within, has_line_in, worked_before}

@@ -8,3 +8,4 @@ pub mod Finishing
 pub mod Seeing
 pub mod Taking
 pub mod Closing
+pub mod First

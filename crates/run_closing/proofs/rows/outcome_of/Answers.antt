@@ -2,8 +2,8 @@ use Rattle.std.proofs.Common.{sym, subst, List, map}
 use Rattle.script_text.specs.declared.asks.Asks.TheVariants as asks
 use Rattle.run_ends.specs.Closing.{WorkerEnd}
 use Rattle.run_ends.specs.Rows.{Tells, desk_for}
-use Rattle.crew_rows.proofs.First.{ok_then}
-use Rattle.crew_rows.proofs.rows.outcome_of.Goals as goal
+use Rattle.run_closing.proofs.First.{ok_then}
+use Rattle.run_closing.proofs.rows.outcome_of.Goals as goal
 
 pub returns-in-Logged : goal.returns-in-Logged
 returns-in-Logged g c =

@@ -2,8 +2,8 @@ use Rattle.std.proofs.Common.{refl, sym, subst, List, map, length, arith}
 use Rattle.std.proofs.lemmas.Option.{slice_get_read}
 use Rattle.run_ends.specs.Closing.{WorkerEnd}
 use Rattle.run_ends.specs.Rows.{AreRows}
-use Rattle.crew_rows.proofs.First.{tells_it, goes_on, are_rows}
-use Rattle.crew_rows.proofs.rows.rows_of.Goals as goal
+use Rattle.run_closing.proofs.First.{tells_it, goes_on, are_rows}
+use Rattle.run_closing.proofs.rows.rows_of.Goals as goal
 
 pub row_of-requires : goal.row_of-requires
 row_of-requires g c =

@@ -1,5 +1,5 @@
 use Rattle.std.proofs.Common.{◌≡◌, take}
-use Rattle.crew_rows.proofs.found.pairs_of.Given as goal
+use Rattle.run_closing.proofs.found.pairs_of.Given as goal
 
 abbrev pub invariant-loop-pair : goal.invariant-loop-pair
 invariant-loop-pair l = l.copies.items ≡ take l.pair-index l.pairs

@@ -1,6 +1,6 @@
 use Rattle.std.proofs.Common.{◌≡◌, map, length}
-use Rattle.crew_rows.proofs.First.{AreFirst}
-use Rattle.crew_rows.proofs.rows.rows_of.Given as goal
+use Rattle.run_closing.proofs.First.{AreFirst}
+use Rattle.run_closing.proofs.rows.rows_of.Given as goal
 
 abbrev pub invariant-loop-i : goal.invariant-loop-i
 invariant-loop-i g l = record {
