@@ -77,6 +77,39 @@ fn print_items(rt: &HostRuntime, entry: &Entry) -> io::Result<()> {
     Ok(())
 }
 
+/// Prints `put x 1` of session 0, as an item and as an entry, in bytes.
+fn show_put(rt: &HostRuntime, rank: u64, node: u64) -> io::Result<()> {
+    let alloc = rt.alloc();
+    let item = put_item(alloc, rank)?;
+    print_bytes(rt, "item", encode_item(alloc, &item)?.as_slice())?;
+    let entry = batch_of_one(alloc, node_of(node)?, item)?;
+    print_bytes(rt, "entry", encode_entry(alloc, &entry)?.as_slice())
+}
+
+fn read_entry(alloc: Global, input: &[&str]) -> io::Result<Entry> {
+    match decode_entry(alloc, read_bytes(alloc, input)?.as_slice()) {
+        Ok(entry) => Ok(entry),
+        Err(DecodeError::Memory) => Err(out_of_memory()),
+        Err(_) => Err(unknown()),
+    }
+}
+
+/// The entry by which a node leaves, reports a position, or asks for a trim.
+fn node_entry(alloc: Global, line: &str, numbers: &[u64]) -> io::Result<Entry> {
+    let [node, rest @ ..] = numbers else {
+        return Err(unknown());
+    };
+    let node = node_of(*node)?;
+    Ok(match rest {
+        [] => batch_of_one(alloc, node, leave_item(alloc, node)?)?,
+        [position] if line.contains("alive") => {
+            batch_of_one(alloc, node, alive_item(alloc, node, *position)?)?
+        }
+        [position] => batch_of_one(alloc, node, trim_item(alloc, *position)?)?,
+        _ => return Err(unknown()),
+    })
+}
+
 /// Packs an item, or unpacks an entry.
 pub(crate) fn show_items(rt: &HostRuntime, input: &[&str]) -> io::Result<()> {
     let alloc = rt.alloc();
@@ -85,30 +118,10 @@ pub(crate) fn show_items(rt: &HostRuntime, input: &[&str]) -> io::Result<()> {
     };
     let (name, _) = name_and_rest(first);
     let numbers = numbers_in(alloc, first)?;
-    let entry = match (name, numbers.as_slice()) {
-        ("bytes", _) => match decode_entry(alloc, read_bytes(alloc, input)?.as_slice()) {
-            Ok(entry) => entry,
-            Err(DecodeError::Memory) => return Err(out_of_memory()),
-            Err(_) => return Err(unknown()),
-        },
-        ("put", [1, 0, rank, node]) => {
-            let item = put_item(alloc, *rank)?;
-            print_bytes(rt, "item", encode_item(alloc, &item)?.as_slice())?;
-            let entry = batch_of_one(alloc, node_of(*node)?, item)?;
-            return print_bytes(rt, "entry", encode_entry(alloc, &entry)?.as_slice());
-        }
-        ("node", [node]) => {
-            let node = node_of(*node)?;
-            batch_of_one(alloc, node, leave_item(alloc, node)?)?
-        }
-        ("node", [node, position]) if first.contains("alive") => {
-            let node = node_of(*node)?;
-            batch_of_one(alloc, node, alive_item(alloc, node, *position)?)?
-        }
-        ("node", [node, position]) => {
-            batch_of_one(alloc, node_of(*node)?, trim_item(alloc, *position)?)?
-        }
-        _ => return Err(unknown()),
-    };
-    print_items(rt, &entry)
+    match (name, numbers.as_slice()) {
+        ("bytes", _) => print_items(rt, &read_entry(alloc, input)?),
+        ("put", [1, 0, rank, node]) => show_put(rt, *rank, *node),
+        ("node", numbers) => print_items(rt, &node_entry(alloc, first, numbers)?),
+        _ => Err(unknown()),
+    }
 }

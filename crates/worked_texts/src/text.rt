@@ -70,27 +70,33 @@ pub(crate) fn read_bytes(alloc: Global, lines: &[&str]) -> io::Result<Vec<u8>> {
     for line in lines {
         let (name, _) = name_and_rest(line);
         let numbers = numbers_in(alloc, line)?;
-        match (name, numbers.as_slice()) {
-            ("byte", [at, byte]) => match bytes.get_mut(*at as usize) {
-                Some(place) => *place = byte_of(*byte)?,
-                None => return Err(unknown()),
-            },
-            ("the", [count]) => bytes.truncate(*count as usize),
-            ("bytes" | "then", numbers) => {
-                for number in numbers {
-                    bytes.push(byte_of(*number)?)?;
-                }
-            }
-            (count, [byte]) => {
-                let byte = byte_of(*byte)?;
-                for _ in 0..number_of(count)? {
-                    bytes.push(byte)?;
-                }
-            }
-            _ => return Err(unknown()),
-        }
+        change_bytes(&mut bytes, name, numbers.as_slice())?;
     }
     Ok(bytes)
+}
+
+/// A line of bytes, or of a change of them.
+fn change_bytes(bytes: &mut Vec<u8>, name: &str, numbers: &[u64]) -> io::Result<()> {
+    match (name, numbers) {
+        ("byte", [at, byte]) => match bytes.get_mut(*at as usize) {
+            Some(place) => *place = byte_of(*byte)?,
+            None => return Err(unknown()),
+        },
+        ("the", [count]) => bytes.truncate(*count as usize),
+        ("bytes" | "then", numbers) => {
+            for number in numbers {
+                bytes.push(byte_of(*number)?)?;
+            }
+        }
+        (count, [byte]) => {
+            let byte = byte_of(*byte)?;
+            for _ in 0..number_of(count)? {
+                bytes.push(byte)?;
+            }
+        }
+        _ => return Err(unknown()),
+    }
+    Ok(())
 }
 
 /// Prints bytes behind a label.
@@ -100,6 +106,25 @@ pub(crate) fn print_bytes(rt: &HostRuntime, label: &str, bytes: &[u8]) -> io::Re
         print!(rt; " {byte}")?;
     }
     println!(rt; "")
+}
+
+/// Puts a text so often.
+fn put_times(out: &mut Vec<u8>, times: u64, text: &str) -> Result<(), AllocError> {
+    for _ in 0..times {
+        out.extend_from_slice(text.as_bytes())?;
+    }
+    Ok(())
+}
+
+/// Puts what a mark stands for, and tells whether the line has its end then.
+fn put_mark(out: &mut Vec<u8>, mark: &str) -> io::Result<bool> {
+    match mark.split_once(' ') {
+        Some(("no", _)) => return Ok(false),
+        Some(("byte", number)) => out.push(byte_of(number_of(number)?)?)?,
+        Some((times, text)) => put_times(out, number_of(times)?, text)?,
+        None => return Err(unknown()),
+    }
+    Ok(true)
 }
 
 /// Puts a line, and tells whether it has an end. `{5 x}` stands for five letters x, `{byte 13}` for that byte, and
@@ -114,16 +139,7 @@ pub(crate) fn put_line(out: &mut Vec<u8>, line: &str) -> io::Result<bool> {
         let Some((mark, behind)) = piece.split_once('}') else {
             return Err(unknown());
         };
-        match mark.split_once(' ') {
-            Some(("no", _)) => has_end = false,
-            Some(("byte", number)) => out.push(byte_of(number_of(number)?)?)?,
-            Some((times, text)) => {
-                for _ in 0..number_of(times)? {
-                    out.extend_from_slice(text.as_bytes())?;
-                }
-            }
-            None => return Err(unknown()),
-        }
+        has_end = put_mark(out, mark)? && has_end;
         out.extend_from_slice(behind.as_bytes())?;
     }
     Ok(has_end)
