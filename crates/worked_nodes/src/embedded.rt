@@ -44,9 +44,12 @@ pub(crate) fn put_and_get<E: Layers>(
 
 fn play<E: Layers>(alloc: Global, two: Two<E, MemDisk>, out: &mut String) -> Result<(), Stuck> {
     let mut first = two;
-    put(alloc, &mut first)?;
+    let put = put(alloc, &mut first);
     let mut second = first.turned();
-    get(alloc, &mut second, out)
+    match put {
+        Ok(()) => get(alloc, &mut second, out),
+        Err(stuck) => Err(stuck),
+    }
 }
 
 /// An empty store, on a disk in memory.
