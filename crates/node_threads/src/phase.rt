@@ -59,7 +59,21 @@ fn seat_all<'a, L: Loglet, R: Register, P: Rules, B: Room, W: Wait, K>(
     }
 }
 
-/// Each node works in a thread of its own.
+/// In how many threads the nodes of a phase work: each in one of its own, or all in the one at hand where no two nodes have lines, since a thread
+/// takes longer to begin than a node without a line.
+fn threads_for(lines: &[NamedLine], from: usize, to: usize, nodes: usize) -> usize
+    requires { to ≤ length lines.now }
+    ensures { 0 < result }
+{
+    for i in from..to {
+        if lines[i].node != lines[from].node {
+            return nodes.max(1);
+        }
+    }
+    1
+}
+
+/// The nodes work in so many threads.
 fn run_each<
     'a,
     L: Loglet + Send,
@@ -76,16 +90,17 @@ fn run_each<
     lines: &[NamedLine],
     from: usize,
     to: usize,
+    threads: usize,
     gate: &G,
     posts: &mut [Post<'a, L, R, P, B, W, Worker<S, C>>],
 )
     requires run { MayRun P.law }
     requires range { (from ≤ to) × (to ≤ length lines.now) }
     requires sends { MaySendAll P.law.may lines.now }
+    requires threads { 0 < threads }
     requires may { AllMayWork P.law S.meaning lines.now from to (λ w. w.seat) (λ w. w.desks.items) posts.old }
     ensures { AllWorked P.law S.meaning lines.now from to (λ w. w.seat) (λ w. w.desks.items) posts.old posts.new }
 {
-    let threads = posts.len().max(1);
     thread::for_each_mut(
         rt,
         posts,
@@ -124,7 +139,17 @@ fn run_all<
     ensures worked { AllWorked P.law S.meaning lines.now from to (λ w. w.seat) (λ w. w.desks.items) posts.old.items posts.new.items }
     ensures size { length posts.new.items ≡ length posts.old.items }
 {
-    run_each(rt, alloc, lines, from, to, gate, posts.as_mut_slice());
+    let threads = threads_for(lines, from, to, posts.len());
+    run_each(
+        rt,
+        alloc,
+        lines,
+        from,
+        to,
+        threads,
+        gate,
+        posts.as_mut_slice(),
+    );
 }
 
 /// Writes down what was noted.
@@ -222,7 +247,8 @@ fn look<L: Loglet, R: Register, P: Rules, W: Wait>(
 /// A phase, whose lines are those from `from` up to `to`: each node plays its own, beside the others. Then all of them have seen the same
 /// again: the journal of before, and what the nodes with lines made in the phase.
 ///
-/// Cost: that of the lines and of the phase's end at each node, side by side; a thread for each node; for each node a look at the lines.
+/// Cost: that of the lines and of the phase's end at each node, side by side; a thread for each node, where at least two have lines; for each node a look at
+/// the lines, and one more.
 pub fn play_phase<
     'a,
     L: Loglet + Send,
