@@ -1,15 +1,16 @@
 #!/bin/sh
-# side_by_side.sh PROGRAM [LINES [RUNS]]: commands a second of PROGRAM, the built delos_sim, over native3, with 1, 2, 4 and 8 nodes: in turn, where no
+# side_by_side.sh PROGRAM [LINES [RUNS [SHELF]]]: commands a second of PROGRAM, the built delos_sim, with 1, 2, 4 and 8 nodes: in turn, where no
 # thread can be started (in_turn.c stands in front of the program); side by side, each node in a thread of its own, where the system has them run; and
 # apart, where each thread has a processor of its own, as far as there are enough (apart.c). How many times as fast as in turn the last two are
-# stands behind them. `run` has a barrier behind each hundredth line, and behind each thousandth. gcc is needed.
+# stands behind them. `run` has a barrier behind each hundredth line, behind each thousandth, and behind the last. gcc is needed.
 #
 # LINES is how many lines a script logs (15,000), RUNS how often each is measured (9): by turns, so that a while in which the machine is slow
-# spoils none. A rate is that of the least time, less the least of as many runs that do as little as can be.
+# spoils none. SHELF is the shelf (native3). A rate is that of the least time, less the least of as many runs that do as little as can be.
 set -eu
 program=$1
 lines=${2:-15000}
 rounds=${3:-9}
+shelf=${4:-native3}
 runs=1
 . "$(dirname "$0")/../times.sh"
 . "$(dirname "$0")/lines.sh"
@@ -20,7 +21,7 @@ gcc -O2 -shared -fPIC -o "$work/apart.so" "$here/apart.c" -ldl
 # timed COMMAND NODES LINES FILE: the microseconds of one run
 timed() {
     # shellcheck disable=SC2046 # the words are split here
-    microseconds 0 "$4" $(words "$1" native3 "$2" "$3")
+    microseconds 0 "$4" $(words "$1" "$shelf" "$2" "$3")
 }
 
 # one_round COMMAND NODES LEAST: the microseconds of a run and of one that does as little as can be
@@ -64,6 +65,7 @@ row() {
 : > "$work/empty"
 echo "| command | lines to a barrier | nodes | in turn | side by side | times | apart | times |"
 echo "|---|---|---|---|---|---|---|---|"
-for nodes in 1 2 4 8; do row run "$nodes" 100; done
-for nodes in 1 2 4 8; do row run "$nodes" 1000; done
+for barrier in 100 1000 "$lines"; do
+    for nodes in 1 2 4 8; do row run "$nodes" "$barrier"; done
+done
 for nodes in 1 2 4 8; do row make "$nodes" ""; done
