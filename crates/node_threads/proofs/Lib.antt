@@ -5,3 +5,4 @@ pub mod Posts
 pub mod Looks
 pub mod Meeting
 pub mod Working
+pub mod Halves

@@ -3,3 +3,4 @@ pub mod Passes
 pub mod Phases
 pub mod Posts
 pub mod Running
+pub mod Each

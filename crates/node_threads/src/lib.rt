@@ -3,6 +3,7 @@
 //! - `gated`: a node's access, at which it passes a gate.
 //! - `part`: what a node does in a phase.
 //! - `post`: a node at its part of the lock.
+//! - `threads`: the nodes of a phase, side by side.
 //! - `phase`: one phase, from the parting of the lock's pass to its joining.
 //! - `phases`: all of them.
 //! - `laws`: what goes on as they work.
@@ -14,3 +15,4 @@ pub mod part;
 pub mod phase;
 pub mod phases;
 pub mod post;
+mod threads;

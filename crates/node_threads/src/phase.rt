@@ -12,6 +12,7 @@ ghost use Rattle.node_threads.specs.Phases.{BeginsPhase, WentOn};
 ghost use Rattle.node_threads.specs.Posts.{AllHave, AllMayWork, AllNoted, AllWorked, MayWork, Worked, all_sufficed, looks_after, seated_from, seens, workers_of};
 
 use crate::post::{Parted, Post};
+use crate::threads::run_all;
 use fate_words::chooser::Chooser;
 use gate_points::Gate;
 use legal_journal::rules::Rules;
@@ -28,7 +29,6 @@ use replica_api::replica::Replica;
 use script_text::asks::NamedLine;
 use std::alloc::{AllocError, Global};
 use std::sync::Wait;
-use std::thread;
 use std::thread::Threads;
 
 /// Each node gets its part, cut off the pass: the first one part 1, and so on.
@@ -57,99 +57,6 @@ fn seat_all<'a, L: Loglet, R: Register, P: Rules, B: Room, W: Wait, K>(
         let pass = lock.split(main, 1);
         posts.push_reserved(Post::new(alloc, Locked::new(rt, lock, pass, number), worker));
     }
-}
-
-/// In how many threads the nodes of a phase work: each in one of its own, or all in the one at hand where no two nodes have lines, since a thread
-/// takes longer to begin than a node without a line.
-fn threads_for(lines: &[NamedLine], from: usize, to: usize, nodes: usize) -> usize
-    requires { to ≤ length lines.now }
-    ensures { 0 < result }
-{
-    for i in from..to {
-        if lines[i].node != lines[from].node {
-            return nodes.max(1);
-        }
-    }
-    1
-}
-
-/// The nodes work in so many threads.
-fn run_each<
-    'a,
-    L: Loglet + Send,
-    R: Register + Send,
-    P: Rules + Send,
-    B: Room + Send,
-    W: Threads + Wait + Sync,
-    S: Replica + Send,
-    C: Chooser + Send,
-    G: Gate + Sync,
->(
-    rt: &W,
-    alloc: Global,
-    lines: &[NamedLine],
-    from: usize,
-    to: usize,
-    threads: usize,
-    gate: &G,
-    posts: &mut [Post<'a, L, R, P, B, W, Worker<S, C>>],
-)
-    requires run { MayRun P.law }
-    requires range { (from ≤ to) × (to ≤ length lines.now) }
-    requires sends { MaySendAll P.law.may lines.now }
-    requires threads { 0 < threads }
-    requires may { AllMayWork P.law S.meaning lines.now from to (λ w. w.seat) (λ w. w.desks.items) posts.old }
-    ensures { AllWorked P.law S.meaning lines.now from to (λ w. w.seat) (λ w. w.desks.items) posts.old posts.new }
-{
-    thread::for_each_mut(
-        rt,
-        posts,
-        threads,
-        &|_, post: &mut Post<L, R, P, B, W, Worker<S, C>>|
-            requires { MayRun P.law × (from ≤ to) × (to ≤ length lines.now) × MaySendAll P.law.may lines.now × MayWork P.law S.meaning lines.now from to (λ w. w.seat) (λ w. w.desks.items) post.now }
-            ensures { Worked P.law S.meaning lines.entry.now from to (λ w. w.seat) (λ w. w.desks.items) post.entry.now post.exit.now }
-        { post.run(alloc, lines, from, to, gate) },
-    );
-}
-
-/// All nodes work, side by side.
-fn run_all<
-    'a,
-    L: Loglet + Send,
-    R: Register + Send,
-    P: Rules + Send,
-    B: Room + Send,
-    W: Threads + Wait + Sync,
-    S: Replica + Send,
-    C: Chooser + Send,
-    G: Gate + Sync,
->(
-    rt: &W,
-    alloc: Global,
-    lines: &[NamedLine],
-    from: usize,
-    to: usize,
-    gate: &G,
-    posts: &mut Vec<Post<'a, L, R, P, B, W, Worker<S, C>>>,
-)
-    requires run { MayRun P.law }
-    requires range { (from ≤ to) × (to ≤ length lines.now) }
-    requires sends { MaySendAll P.law.may lines.now }
-    requires may { AllMayWork P.law S.meaning lines.now from to (λ w. w.seat) (λ w. w.desks.items) posts.old.items }
-    ensures worked { AllWorked P.law S.meaning lines.now from to (λ w. w.seat) (λ w. w.desks.items) posts.old.items posts.new.items }
-    ensures size { length posts.new.items ≡ length posts.old.items }
-{
-    let threads = threads_for(lines, from, to, posts.len());
-    run_each(
-        rt,
-        alloc,
-        lines,
-        from,
-        to,
-        threads,
-        gate,
-        posts.as_mut_slice(),
-    );
 }
 
 /// Writes down what was noted.
@@ -247,8 +154,8 @@ fn look<L: Loglet, R: Register, P: Rules, W: Wait>(
 /// A phase, whose lines are those from `from` up to `to`: each node plays its own, beside the others. Then all of them have seen the same
 /// again: the journal of before, and what the nodes with lines made in the phase.
 ///
-/// Cost: that of the lines and of the phase's end at each node, side by side; a thread for each node, where at least two have lines; for each node a look at
-/// the lines, and one more.
+/// Cost: that of the lines and of the phase's end at each node, side by side; a thread for each node with lines but one; for each node a look at the lines, and
+/// one more.
 pub fn play_phase<
     'a,
     L: Loglet + Send,

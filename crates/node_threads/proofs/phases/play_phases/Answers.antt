@@ -1,4 +1,4 @@
-use Rattle.std.proofs.Common.{rules, ◌≡◌, [], sym, ◌∙◌, subst}
+use Rattle.std.proofs.Common.{rules, ◌≡◌, sym, ◌∙◌, subst}
 use Rattle.std.specs.Prelude.{OnOk, ℕ, length}
 use Rattle.pass_lock.specs.Pass.{whole}
 use Rattle.node_crew.specs.Crews.{CrewRests, CrewStands}

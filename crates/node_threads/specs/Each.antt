@@ -1,0 +1,26 @@
+-- A closure at each element of a list.
+use Rattle.std.specs.Prelude.{◌≡◌, ℕ, ◌<◌, List, length, slice_index_or}
+use denote.Ref.{MutBor}
+use denote.Param.Members.{Shared}
+
+module _ {F T : Type 0} (g : Shared F (MutBor T × Unit {0}) (Unit {0} × (MutBor T × Unit {0}))) (f : F) where
+  -- f may be called with a `&mut` to x
+  abbrev pub Accepts : T → Type 0
+  Accepts x = (p : MutBor T) → p.now ≡ x → g.pre f (p, tt)
+
+  -- a call of f with a `&mut` to x may leave y there
+  pub record Changes (x y : T) : Type 0 where
+    pub argument : MutBor T
+    pub argument_is : argument.now ≡ x
+    pub after_call : MutBor T
+    pub call : g.post f (argument, tt) (tt, (after_call, tt))
+    pub left : after_call.now ≡ y
+
+  -- f may be called at each element
+  pub record AcceptsAll (xs : List T) : Type 0 where
+    pub each : (i : ℕ) (d : T) → i < length xs → Accepts (slice_index_or xs i d)
+
+  -- each element of ys is what a call of f left of that of xs
+  pub record ChangesAll (xs ys : List T) : Type 0 where
+    pub len : length ys ≡ length xs
+    pub each : (i : ℕ) (d : T) → i < length xs → Changes (slice_index_or xs i d) (slice_index_or ys i d)
