@@ -118,8 +118,8 @@ fn know_all<L: Loglet>(cells: &[L])
 /// and the answers are told. The loglets, the register and the nodes' parts come back, whatever comes of it; nothing is told where
 /// memory was wanting.
 ///
-/// Cost: that of the lines, and for each node what it has to play of the log, of the nodes side by side; and a thread for each node in
-/// each phase. Nothing that is kept of a line is looked at again before the end.
+/// Cost: that of the lines, and for each node what it has to play of the log, of the nodes side by side; and in each phase a thread for each
+/// node with lines but one. Nothing that is kept of a line is looked at again before the end.
 pub fn run_lines<
     L: Loglet + Send,
     R: Register + Send,

@@ -36,7 +36,7 @@ fn words_of(rt: &HostRuntime) -> Result<Vec<String>, AllocError> {
     Ok(words)
 }
 
-/// Runs the script over the loglets and the nodes that the words name, on which nothing was begun, each node in a thread. What standard
+/// Runs the script over the loglets and the nodes that the words name, on which nothing was begun, in threads. What standard
 /// error or a file can't take of the notes is let go: the status is the run's.
 fn run_script<W: Threads + Wait + Sync>(
     rt: &HostRuntime,

@@ -93,10 +93,10 @@ fn play_in<
     Ok(())
 }
 
-/// Plays all lines: the nodes side by side, each in a thread of its own, over the fabric under a lock. At a phase's end all are joined.
+/// Plays all lines: the nodes side by side over the fabric under a lock, in threads, as `play_phase` has them. At a phase's end all are joined.
 ///
-/// Cost: that of the lines and of the phases' ends, of the nodes side by side; for each phase with lines a thread and a look at its lines for
-/// each node. A turn has the lock as long as its one event takes.
+/// Cost: that of the lines and of the phases' ends, of the nodes side by side; for each phase with lines a thread for each node with lines but
+/// one, and a look at the lines for each node. A turn has the lock as long as its one event takes.
 pub fn play_phases<
     L: Loglet + Send,
     R: Register + Send,

@@ -31,8 +31,8 @@ use std::thread::Threads;
 /// chain's open segment; the register of the chain; and for each node its five engines, an empty disk, and what chooses for it. It
 /// comes back, however the run ends. Where the words have no plan, nothing of it is touched.
 ///
-/// The nodes play their lines of a phase beside one another, each in a thread of its own, and pass the gate as they do; what is told fits
-/// whatever the order in which their events come.
+/// The nodes that have lines in a phase play them beside one another, in threads, and pass the gate as they do; what is told fits whatever
+/// the order in which their events come.
 ///
 /// A node whose disk fails as its store is begun goes on without it, and opens it again when it has an entry to apply.
 ///
