@@ -7,6 +7,7 @@ use crate::desk::Desk;
 use crate::room::Room;
 use legal_journal::events::{FabricAnswer, FabricCall};
 use legal_journal::rules::Rules;
+use legal_journal::turns::Turns;
 use loglet_api::loglet::Loglet;
 use pass_lock::{Pass, Shared};
 use register_api::Register;
@@ -96,5 +97,17 @@ impl<'a, L: Loglet, R: Register, P: Rules, B: Room, W: Wait> Access for Locked<'
         let answer = desk.fabric.apply(self.who, call);
         self.shared.leave(&mut self.pass, desk);
         answer
+    }
+}
+
+impl<'a, L: Loglet, R: Register, P: Rules, B: Room, W: Wait> Turns for Locked<'a, L, R, P, B, W> {
+    type Law = P;
+
+    ghost who = { λ l. l.who };
+
+    ghost seen = { λ l. l.seen };
+
+    fn turn(&mut self, call: FabricCall) -> FabricAnswer {
+        self.take(call)
     }
 }
