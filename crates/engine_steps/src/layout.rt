@@ -105,9 +105,14 @@ pub fn held_key(session: SessionId, rank: u64) -> [u8; 11]
 pub fn slot_text(alloc: Global, place: Place, rank: Rank, reply: &[u8]) -> Result<Bytes, AllocError>
     ensures { IfOk result (λ slot. slot ≡ layout.slot_text place rank reply.now) }
 {
-    let mut slot = Bytes::from_slice(alloc, &rank.number().to_be_bytes())?;
-    slot.extend_from_slice(&place.pos.to_be_bytes())?;
-    slot.extend_from_slice(&place.sub.to_be_bytes())?;
+    let r = rank.number().to_be_bytes();
+    let p = place.pos.to_be_bytes();
+    let s = place.sub.to_be_bytes();
+    let front = [
+        r[0], r[1], r[2], r[3], r[4], r[5], r[6], r[7], p[0], p[1], p[2], p[3], p[4], p[5], p[6],
+        p[7], s[0], s[1],
+    ];
+    let mut slot = Bytes::from_slice(alloc, &front)?;
     slot.extend_from_slice(reply)?;
     Ok(slot)
 }

@@ -3,7 +3,6 @@ ghost use Rattle.std.specs.Prelude.{◌≡◌, IfOk};
 ghost use Rattle.std.specs.Option.{option_copied};
 ghost use Rattle.engine_steps.specs.Replies as replies;
 
-use delos_types::big_endian::put_u16;
 use delos_types::bytes::Bytes;
 use std::alloc::{AllocError, Global};
 use table_core::command::Reply;
@@ -31,20 +30,19 @@ fn reply_bytes(alloc: Global, reply: &Reply) -> Result<Bytes, AllocError>
     }
 }
 
+#[tactic(auto, unfolding(delos_types::specs::Numbers::u16_bytes))]
 fn was_bytes(alloc: Global, value: &Bytes) -> Result<Bytes, AllocError>
     ensures { IfOk result (λ bytes. bytes ≡ replies.reply_bytes (Reply.Was value.now)) }
 {
-    let mut bytes = Vec::new(alloc);
-    bytes.push(3)?;
-    put_u16(&mut bytes, (value.len() % 65536) as u16)?;
+    let size = ((value.len() % 65536) as u16).to_be_bytes();
+    let mut bytes = Bytes::from_slice(alloc, &[3, size[0], size[1]])?;
     bytes.extend_from_slice(value.as_slice())?;
-    Ok(Bytes::from_vec(bytes))
+    Ok(bytes)
 }
 
 fn number_bytes(alloc: Global, number: i64) -> Result<Bytes, AllocError>
     ensures { IfOk result (λ bytes. bytes ≡ replies.reply_bytes (Reply.Number number)) }
 {
-    let mut bytes = Bytes::from_slice(alloc, &[4])?;
-    bytes.extend_from_slice(&number.to_be_bytes())?;
-    Ok(bytes)
+    let n = number.to_be_bytes();
+    Bytes::from_slice(alloc, &[4, n[0], n[1], n[2], n[3], n[4], n[5], n[6], n[7]])
 }

@@ -2,12 +2,12 @@
 use Rattle.std.proofs.Common.{◌≡◌, ℕ, zero, suc, ◌+◌, ◌*◌, ◌^◌, ◌<◌, ◌≤◌, List, [], ◌∷◌, length, refl, sym, ap, ◌∙◌, arith, lit<, mul-le-mul_right, pow-suc}
 use Rattle.std.proofs.lemmas.Cmp.{by_ranked, ranked}
 use Rattle.std.specs.Cmp.{nat_cmp_is}
-use Rattle.std.specs.Cmp.Lexicographic.{slice_cmp, nat_list_cmp_total}
+use Rattle.std.specs.Cmp.Lexicographic.{slice_cmp}
 use Rattle.std.specs.Ordering.{nat_cmp, ordering_then, ordering_reverse}
 use Rattle.std.specs.declared.cmp.Ordering.{Ordering}
 use Rattle.std.specs.declared.cmp.Ordering.TheVariants.{Less, Equal, Greater}
 use Rattle.delos_types.specs.Numbers.{IsBytes, u64_of}
-use Rattle.local_store.specs.Heads.{HasHead}
+use Rattle.local_store.specs.Keys.{KeyView, key_cmp, key_total, HasFront}
 
 -- the first so many bytes as one number, the highest first, with zeros behind a shorter text
 abbrev head : ℕ → List ℕ → ℕ
@@ -94,17 +94,29 @@ same_heads (suc n) (x ∷ a) (y ∷ b) s t h la lb =
     ap (λ (o : Ordering). ordering_then o (slice_cmp nat_cmp a b)) is ∙ same_heads n a b (λ i. s (suc i)) (λ i. t (suc i)) rest short other ∙ nat_cmp-suc (length a) (length b))
     (λ is gt. absurd (less_or_not x y (256 ^ n) (head n a) (head n b) gt (head_small n b (λ i. t (suc i))) h))
 
-pub by_length : (a b : List ℕ) → IsBytes a → IsBytes b → u64_of a ≡ u64_of b → length a ≤ 8 → length b ≤ 8 → slice_cmp nat_cmp a b ≡ nat_cmp (length a) (length b)
+by_length : (a b : List ℕ) → IsBytes a → IsBytes b → u64_of a ≡ u64_of b → length a ≤ 8 → length b ≤ 8 → slice_cmp nat_cmp a b ≡ nat_cmp (length a) (length b)
 by_length a b s t same la lb = same_heads 8 a b s t (sym (u64_head a) ∙ same ∙ u64_head b) la lb
 
--- ---- keys by their heads
+-- ---- keys by the numbers in front of them
 
-pub less_by_head : (a b : List ℕ) (m k : ℕ) → HasHead m a → HasHead k b → m < k → slice_cmp nat_cmp a b ≡ Less
-less_by_head a b m k first second lt =
-    let one : m ≡ head 8 a = first.value ∙ u64_head a in
-    let other : k ≡ head 8 b = second.value ∙ u64_head b in
-    less_heads 8 a b first.bytes second.bytes (omega (arith, one, other, lt))
+pub bytes_behind : (kind : ℕ) (key : List ℕ) → kind < 256 → IsBytes key → IsBytes (kind ∷ key)
+bytes_behind kind key small bytes zero = small
+bytes_behind kind key small bytes (suc i) = bytes i
 
-pub greater_by_head : (a b : List ℕ) (m k : ℕ) → HasHead m a → HasHead k b → k < m → slice_cmp nat_cmp a b ≡ Greater
-greater_by_head a b m k first second lt =
-    nat_list_cmp_total.antisymm a b ∙ ap ordering_reverse (less_by_head b a k m second first lt)
+pub less_by_front : (x y : KeyView) (m k : ℕ) → HasFront m x.kind x.key → HasFront k y.kind y.key → m < k → key_cmp x y ≡ Less
+less_by_front x y m k first second lt =
+    let one : m ≡ head 8 (x.kind ∷ x.key) = first.value ∙ u64_head (x.kind ∷ x.key) in
+    let other : k ≡ head 8 (y.kind ∷ y.key) = second.value ∙ u64_head (y.kind ∷ y.key) in
+    less_heads 8 (x.kind ∷ x.key) (y.kind ∷ y.key) first.bytes second.bytes (omega (arith, one, other, lt))
+
+pub greater_by_front : (x y : KeyView) (m k : ℕ) → HasFront m x.kind x.key → HasFront k y.kind y.key → k < m → key_cmp x y ≡ Greater
+greater_by_front x y m k first second lt = key_total.antisymm x y ∙ ap ordering_reverse (less_by_front y x k m second first lt)
+
+pub same_front : (x y : KeyView) (m k : ℕ) → HasFront m x.kind x.key → HasFront k y.kind y.key → k ≤ m → m ≤ k → u64_of (x.kind ∷ x.key) ≡ u64_of (y.kind ∷ y.key)
+same_front x y m k first second le ge = omega (arith, first.value, second.value, le, ge)
+
+-- two short keys of one front
+pub short_by_front : (x y : KeyView) (m k : ℕ) → HasFront m x.kind x.key → HasFront k y.kind y.key → u64_of (x.kind ∷ x.key) ≡ u64_of (y.kind ∷ y.key) → length x.key < 8 → length y.key < 8 → key_cmp x y ≡ nat_cmp (length x.key) (length y.key)
+short_by_front x y m k first second same lx ly =
+    by_length (x.kind ∷ x.key) (y.kind ∷ y.key) first.bytes second.bytes same (omega (arith, lx)) (omega (arith, ly))
+    ∙ sym (nat_cmp-suc (length x.key) (length y.key))

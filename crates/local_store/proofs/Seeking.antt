@@ -18,9 +18,9 @@ use Rattle.std.proofs.lemmas.Map.Lookups.{exact_unsigned, exact_bytes}
 use Rattle.std.specs.FinMap.{find, get, entries, entries_sorted, retain_keys, get-entries, get-retain_keys}
 use Rattle.std.specs.FinMap.Entries.{is_sorted, below_all}
 use Rattle.delos_types.specs.Spaces.{SpaceMap, Text, text_cmp, space_cmp, first_key, least_key_from}
-use Rattle.local_store.specs.declared.key.SpaceKey.{SpaceKey}
-use Rattle.local_store.specs.Slots.{Entries, key_cmp, slot_of, value_in, first_shown, lesser_of}
-use Rattle.local_store.proofs.SlotLaws.{key_total, space_total, space_exact, at_same, none_later, IsInOrder, head_below, tail_ordered}
+use Rattle.local_store.specs.Keys.{KeyView, key_cmp, key_total}
+use Rattle.local_store.specs.Slots.{Entries, slot_of, value_in, first_shown, lesser_of}
+use Rattle.local_store.proofs.SlotLaws.{space_total, space_exact, at_same, none_later, IsInOrder, head_below, tail_ordered}
 
 -- ---- answers of comparisons
 
@@ -70,47 +70,47 @@ both_true false b p q = absurd cc
 
 -- ---- keys of one kind
 
-abbrev pub at : SpaceKey → Text → SpaceKey
+abbrev pub at : KeyView → Text → KeyView
 at start q = record { kind = start.kind; key = q }
 
-at_cmp : (start : SpaceKey) (q : Text) → key_cmp start (at start q) ≡ text_cmp start.key q
+at_cmp : (start : KeyView) (q : Text) → key_cmp start (at start q) ≡ text_cmp start.key q
 at_cmp start q = ap (λ r. ordering_then r (text_cmp start.key q)) (tied_itself nat_cmp_total start.kind)
 
-at_at : (start : SpaceKey) (p q : Text) → key_cmp (at start p) (at start q) ≡ text_cmp p q
+at_at : (start : KeyView) (p q : Text) → key_cmp (at start p) (at start q) ≡ text_cmp p q
 at_at start p q = ap (λ r. ordering_then r (text_cmp p q)) (tied_itself nat_cmp_total start.kind)
 
 -- ---- slots in order
 
-abbrev pub shown : Entries → (SpaceKey → Bool) → SpaceKey → Bool
+abbrev pub shown : Entries → (KeyView → Bool) → KeyView → Bool
 shown es hidden q = is_some (value_in (slot_of es q)) && not (hidden q)
 
-later_below : (x y : SpaceKey) (ks : List SpaceKey) → key_cmp x y ≡ Less → AllByRecursion (λ z. key_cmp y z ≡ Less) ks → AllByRecursion (λ z. key_cmp x z ≡ Less) ks
+later_below : (x y : KeyView) (ks : List KeyView) → key_cmp x y ≡ Less → AllByRecursion (λ z. key_cmp y z ≡ Less) ks → AllByRecursion (λ z. key_cmp x z ≡ Less) ks
 later_below x y [] less h = tt
 later_below x y (k ∷ ks) less h = (key_total.trans x y k less h.0, later_below x y ks less h.1)
 
 -- a key below the first has no slot
-none_before : (x : SpaceKey) (e : SpaceKey × Option Text) (es : Entries) → IsInOrder (e ∷ es) → key_cmp x e.0 ≡ Less → slot_of (e ∷ es) x ≡ None
+none_before : (x : KeyView) (e : KeyView × Option Text) (es : Entries) → IsInOrder (e ∷ es) → key_cmp x e.0 ≡ Less → slot_of (e ∷ es) x ≡ None
 none_before x e es s less = none_later x (e ∷ es) (less, later_below x e.0 (keys_of es) less (head_below e es s))
 
-hidden_none : (es : Entries) (hidden : SpaceKey → Bool) (x : SpaceKey) → slot_of es x ≡ None → shown es hidden x ≡ false
+hidden_none : (es : Entries) (hidden : KeyView → Bool) (x : KeyView) → slot_of es x ≡ None → shown es hidden x ≡ false
 hidden_none es hidden x none = ap (λ (slot : Option (Option Text)). is_some (value_in slot) && not (hidden x)) none
 
-shown_head : (e : SpaceKey × Option Text) (es : Entries) (hidden : SpaceKey → Bool) (x : SpaceKey) → is_at (key_cmp x) e.0 ≡ false → shown (e ∷ es) hidden x ≡ shown es hidden x
+shown_head : (e : KeyView × Option Text) (es : Entries) (hidden : KeyView → Bool) (x : KeyView) → is_at (key_cmp x) e.0 ≡ false → shown (e ∷ es) hidden x ≡ shown es hidden x
 shown_head e es hidden x apart = ap (λ b. is_some (value_in (cond b (Some e.1) (slot_of es x))) && not (hidden x)) apart
 
-shown_here : (e : SpaceKey × Option Text) (es : Entries) (hidden : SpaceKey → Bool) → shown (e ∷ es) hidden e.0 ≡ (is_some e.1 && not (hidden e.0))
+shown_here : (e : KeyView × Option Text) (es : Entries) (hidden : KeyView → Bool) → shown (e ∷ es) hidden e.0 ≡ (is_some e.1 && not (hidden e.0))
 shown_here e es hidden = ap (λ r. is_some (value_in (cond (is_eq r) (Some e.1) (slot_of es e.0))) && not (hidden e.0)) (tied_itself key_total e.0)
 
-still_shown : (e : SpaceKey × Option Text) (es : Entries) (hidden : SpaceKey → Bool) (x : SpaceKey) → IsInOrder (e ∷ es) → shown es hidden x ≡ true → shown (e ∷ es) hidden x ≡ true
+still_shown : (e : KeyView × Option Text) (es : Entries) (hidden : KeyView → Bool) (x : KeyView) → IsInOrder (e ∷ es) → shown es hidden x ≡ true → shown (e ∷ es) hidden x ≡ true
 still_shown e es hidden x s is = by_place (is_at (key_cmp x) e.0) refl
   where
     by_place : (b : Bool) → is_at (key_cmp x) e.0 ≡ b → shown (e ∷ es) hidden x ≡ true
     by_place true here =
-        let none : slot_of es x ≡ None = subst (λ (k : SpaceKey). slot_of es k ≡ None) (sym (at_same x e.0 here)) (none_later e.0 es (head_below e es s)) in
+        let none : slot_of es x ≡ None = subst (λ (k : KeyView). slot_of es k ≡ None) (sym (at_same x e.0 here)) (none_later e.0 es (head_below e es s)) in
         absurd (never_equal (shown es hidden x) is (hidden_none es hidden x none))
     by_place false apart = shown_head e es hidden x apart ∙ is
 
-was_shown : (e : SpaceKey × Option Text) (es : Entries) (hidden : SpaceKey → Bool) (x : SpaceKey) → (x ≡ e.0 → ⊥) → shown (e ∷ es) hidden x ≡ true → shown es hidden x ≡ true
+was_shown : (e : KeyView × Option Text) (es : Entries) (hidden : KeyView → Bool) (x : KeyView) → (x ≡ e.0 → ⊥) → shown (e ∷ es) hidden x ≡ true → shown es hidden x ≡ true
 was_shown e es hidden x never is = by_place (is_at (key_cmp x) e.0) refl
   where
     by_place : (b : Bool) → is_at (key_cmp x) e.0 ≡ b → shown es hidden x ≡ true
@@ -118,17 +118,17 @@ was_shown e es hidden x never is = by_place (is_at (key_cmp x) e.0) refl
     by_place false apart = sym (shown_head e es hidden x apart) ∙ is
 
 -- the least key from the start's on that is shown
-pub record IsNext (es : Entries) (hidden : SpaceKey → Bool) (start : SpaceKey) (r : Option Text) : Type 0 where
+pub record IsNext (es : Entries) (hidden : KeyView → Bool) (start : KeyView) (r : Option Text) : Type 0 where
   pub found : IfSome r (λ k. (shown es hidden (at start k) ≡ true) × (is_lt (text_cmp k start.key) ≡ false))
   pub least : (q : Text) → is_lt (text_cmp q start.key) ≡ false → shown es hidden (at start q) ≡ true → MatchOption r ⊥ (λ k. is_lt (text_cmp q k) ≡ false)
 
 abbrev picked : Bool → Bool → Bool → Text → Option Text → Option Text
 picked from kind here k r = cond from (cond kind (cond here (Some k) r) None) r
 
-kind_of : (start : SpaceKey) (e : SpaceKey × Option Text) → eqb e.0.kind start.kind ≡ true → at start e.0.key ≡ e.0
+kind_of : (start : KeyView) (e : KeyView × Option Text) → eqb e.0.kind start.kind ≡ true → at start e.0.key ≡ e.0
 kind_of start e same = let kind : e.0.kind ≡ start.kind = eqb-true _ _ same in ap (λ (n : ℕ). record { kind = n; key = e.0.key }) (sym kind)
 
-found_more : (e : SpaceKey × Option Text) (es : Entries) (hidden : SpaceKey → Bool) (start : SpaceKey) (r : Option Text) → IsInOrder (e ∷ es) → IfSome r (λ k. (shown es hidden (at start k) ≡ true) × (is_lt (text_cmp k start.key) ≡ false)) → IfSome r (λ k. (shown (e ∷ es) hidden (at start k) ≡ true) × (is_lt (text_cmp k start.key) ≡ false))
+found_more : (e : KeyView × Option Text) (es : Entries) (hidden : KeyView → Bool) (start : KeyView) (r : Option Text) → IsInOrder (e ∷ es) → IfSome r (λ k. (shown es hidden (at start k) ≡ true) × (is_lt (text_cmp k start.key) ≡ false)) → IfSome r (λ k. (shown (e ∷ es) hidden (at start k) ≡ true) × (is_lt (text_cmp k start.key) ≡ false))
 found_more e es hidden start None s h = tt
 found_more e es hidden start (Some k) s h = (still_shown e es hidden (at start k) s h.0, h.1)
 
@@ -137,7 +137,7 @@ less_kind m n Less t is apart le = refl
 less_kind m n Equal t is apart le = let same : m ≡ n = exact_unsigned m n is in absurd (apart (grind (arith, nat_tests)))
 less_kind m n Greater t is apart le = absurd cc
 
-next_step : (e : SpaceKey × Option Text) (es : Entries) (hidden : SpaceKey → Bool) (start : SpaceKey) (r : Option Text) (from kind here : Bool) → (is_le (key_cmp start e.0) && true) ≡ from → eqb e.0.kind start.kind ≡ kind → (is_some e.1 && not (hidden e.0)) ≡ here →
+next_step : (e : KeyView × Option Text) (es : Entries) (hidden : KeyView → Bool) (start : KeyView) (r : Option Text) (from kind here : Bool) → (is_le (key_cmp start e.0) && true) ≡ from → eqb e.0.kind start.kind ≡ kind → (is_some e.1 && not (hidden e.0)) ≡ here →
     IsInOrder (e ∷ es) → IsNext es hidden start r → IsNext (e ∷ es) hidden start (picked from kind here e.0.key r)
 next_step e es hidden start r false kind here is is' is'' s rest = record {
   found = found_more e es hidden start r s rest.found;
@@ -150,7 +150,7 @@ next_step e es hidden start r false kind here is is' is'' s rest = record {
 
     below : (q : Text) → at start q ≡ e.0 → is_lt (text_cmp q start.key) ≡ true
     below q same =
-        let greater : text_cmp start.key q ≡ Greater = sym (at_cmp start q) ∙ ap (λ (k : SpaceKey). key_cmp start k) same ∙ is_greater (key_cmp start e.0) (before (is_le (key_cmp start e.0)) is) in
+        let greater : text_cmp start.key q ≡ Greater = sym (at_cmp start q) ∙ ap (λ (k : KeyView). key_cmp start k) same ∙ is_greater (key_cmp start e.0) (before (is_le (key_cmp start e.0)) is) in
         lt-gt q start.key ∙ ap is_gt greater
 next_step e es hidden start r true false here is is' is'' s rest = record {
   found = tt;
@@ -163,7 +163,7 @@ next_step e es hidden start r true false here is is' is'' s rest = record {
     below : (q : Text) → key_cmp (at start q) e.0 ≡ Less
     below q = ap (λ o. ordering_then o (text_cmp q e.0.key)) less
 next_step e es hidden start r true true true is is' is'' s rest = record {
-  found = (subst (λ (k : SpaceKey). shown (e ∷ es) hidden k ≡ true) (sym same) (shown_here e es hidden ∙ is''), from_start);
+  found = (subst (λ (k : KeyView). shown (e ∷ es) hidden k ≡ true) (sym same) (shown_here e es hidden ∙ is''), from_start);
   least = λ q ge shows. not_less q (is_lt (text_cmp q e.0.key)) refl shows;
 }
   where
@@ -173,28 +173,28 @@ next_step e es hidden start r true true true is is' is'' s rest = record {
     from_start : is_lt (text_cmp e.0.key start.key) ≡ false
     from_start =
         let le : is_le (key_cmp start e.0) ≡ true = left_true (is_le (key_cmp start e.0)) true is in
-        let at_le : is_le (text_cmp start.key e.0.key) ≡ true = ap is_le (sym (at_cmp start e.0.key) ∙ ap (λ (k : SpaceKey). key_cmp start k) same) ∙ le in
+        let at_le : is_le (text_cmp start.key e.0.key) ≡ true = ap is_le (sym (at_cmp start e.0.key) ∙ ap (λ (k : KeyView). key_cmp start k) same) ∙ le in
         lt-gt e.0.key start.key ∙ not_greater (text_cmp start.key e.0.key) at_le
 
     not_less : (q : Text) (b : Bool) → is_lt (text_cmp q e.0.key) ≡ b → shown (e ∷ es) hidden (at start q) ≡ true → is_lt (text_cmp q e.0.key) ≡ false
     not_less q true b shows =
-        let less : key_cmp (at start q) e.0 ≡ Less = ap (λ (k : SpaceKey). key_cmp (at start q) k) (sym same) ∙ at_at start q e.0.key ∙ is_less (text_cmp q e.0.key) b in
+        let less : key_cmp (at start q) e.0 ≡ Less = ap (λ (k : KeyView). key_cmp (at start q) k) (sym same) ∙ at_at start q e.0.key ∙ is_less (text_cmp q e.0.key) b in
         absurd (never_equal (shown (e ∷ es) hidden (at start q)) shows (hidden_none (e ∷ es) hidden (at start q) (none_before (at start q) e es s less)))
     not_less q false b shows = b
 next_step e es hidden start r true true false is is' is'' s rest = record {
   found = found_more e es hidden start r s rest.found;
-  least = λ q ge shows. rest.least q ge (was_shown e es hidden (at start q) (λ (same : at start q ≡ e.0). never_equal (shown (e ∷ es) hidden e.0) (subst (λ (k : SpaceKey). shown (e ∷ es) hidden k ≡ true) same shows) (shown_here e es hidden ∙ is'')) shows);
+  least = λ q ge shows. rest.least q ge (was_shown e es hidden (at start q) (λ (same : at start q ≡ e.0). never_equal (shown (e ∷ es) hidden e.0) (subst (λ (k : KeyView). shown (e ∷ es) hidden k ≡ true) same shows) (shown_here e es hidden ∙ is'')) shows);
 }
 
 -- the slots from a key on
-abbrev pub from_on : SpaceKey → Entries → Entries
+abbrev pub from_on : KeyView → Entries → Entries
 from_on start es = entries_between key_cmp (Included start) Unbounded es
 
-picks : (e : SpaceKey × Option Text) (fs : Entries) (hidden : SpaceKey → Bool) (kind : ℕ) (b : Bool) → first_shown kind hidden (cond b (e ∷ fs) fs) ≡ picked b (eqb e.0.kind kind) (is_some e.1 && not (hidden e.0)) e.0.key (first_shown kind hidden fs)
+picks : (e : KeyView × Option Text) (fs : Entries) (hidden : KeyView → Bool) (kind : ℕ) (b : Bool) → first_shown kind hidden (cond b (e ∷ fs) fs) ≡ picked b (eqb e.0.kind kind) (is_some e.1 && not (hidden e.0)) e.0.key (first_shown kind hidden fs)
 picks e fs hidden kind true = refl
 picks e fs hidden kind false = refl
 
-pub next_in : (es : Entries) (hidden : SpaceKey → Bool) (start : SpaceKey) → IsInOrder es → IsNext es hidden start (first_shown start.kind hidden (from_on start es))
+pub next_in : (es : Entries) (hidden : KeyView → Bool) (start : KeyView) → IsInOrder es → IsNext es hidden start (first_shown start.kind hidden (from_on start es))
 next_in [] hidden start s = record { found = tt; least = λ q ge shows. cc }
 next_in (e ∷ es) hidden start s =
     let rest = next_in es hidden start (tail_ordered e es s) in
@@ -234,11 +234,11 @@ lesser_up_to q (Some a) (Some b) h = chosen (is_gt (text_cmp a b)) refl h
 -- ---- a space that was changed
 
 -- the least key of the kind from the start's on
-pub record IsLeast (m : SpaceMap) (start : SpaceKey) (r : Option Text) : Type 0 where
+pub record IsLeast (m : SpaceMap) (start : KeyView) (r : Option Text) : Type 0 where
   pub found : IfSome r (λ k. IsSome (get m (start.kind, k)) × (is_lt (text_cmp k start.key) ≡ false))
   pub least : (q : Text) → is_lt (text_cmp q start.key) ≡ false → IsSome (get m (start.kind, q)) → MatchOption r ⊥ (λ k. is_lt (text_cmp q k) ≡ false)
 
-abbrev pub changed_value : Entries → Entries → SpaceKey → Option Text
+abbrev pub changed_value : Entries → Entries → KeyView → Option Text
 changed_value base changes q = unwrap_or (slot_of changes q) (value_in (slot_of base q))
 
 shown_kept : (slot : Option (Option Text)) (o : Option Text) → (is_some o && not (is_some slot)) ≡ true → IsSome (unwrap_or slot o)
@@ -262,7 +262,7 @@ if_some_weaker P Q None f h = tt
 if_some_weaker P Q (Some k) f h = f k h
 
 -- the lesser of the next of the base that isn't changed and the next that is set
-pub least_changed : (m : SpaceMap) (base changes : Entries) (start : SpaceKey) (kept set : Option Text) → ((q : SpaceKey) → get m (q.kind, q.key) ≡ changed_value base changes q) → IsNext base (λ q. is_some (slot_of changes q)) start kept → IsNext changes (λ _. false) start set → IsLeast m start (lesser_of kept set)
+pub least_changed : (m : SpaceMap) (base changes : Entries) (start : KeyView) (kept set : Option Text) → ((q : KeyView) → get m (q.kind, q.key) ≡ changed_value base changes q) → IsNext base (λ q. is_some (slot_of changes q)) start kept → IsNext changes (λ _. false) start set → IsLeast m start (lesser_of kept set)
 least_changed m base changes start kept set has first second = record {
   found = lesser_found (λ k. IsSome (get m (start.kind, k)) × (is_lt (text_cmp k start.key) ≡ false)) kept set
       (if_some_weaker (λ k. (shown base (λ q. is_some (slot_of changes q)) (at start k) ≡ true) × (is_lt (text_cmp k start.key) ≡ false)) (λ k. IsSome (get m (start.kind, k)) × (is_lt (text_cmp k start.key) ≡ false)) kept
@@ -278,7 +278,7 @@ least_changed m base changes start kept set has first second = record {
 
 -- ---- the least key of a finite map
 
-abbrev from_kind : SpaceKey → ℕ × Text → Bool
+abbrev from_kind : KeyView → ℕ × Text → Bool
 from_kind start k = eqb k.0 start.kind && not (is_lt (text_cmp k.1 start.key))
 
 split_T : (a b : Bool) → T (a && b) → T a × T b
@@ -325,7 +325,7 @@ same_text x y p q = exact_bytes x y (equal (text_cmp x y) p (sym (lt-gt y x) ∙
     equal Equal a b = refl
     equal Greater a b = absurd cc
 
-first_is : (m : SpaceMap) (start : SpaceKey) (r : Option Text) (es : List ((ℕ × Text) × Text)) → IsLeast m start r → T (is_sorted space_cmp es) → ((q : ℕ × Text) → find space_cmp q es ≡ cond (from_kind start q) (get m q) None) → r ≡ first_key es
+first_is : (m : SpaceMap) (start : KeyView) (r : Option Text) (es : List ((ℕ × Text) × Text)) → IsLeast m start r → T (is_sorted space_cmp es) → ((q : ℕ × Text) → find space_cmp q es ≡ cond (from_kind start q) (get m q) None) → r ≡ first_key es
 first_is m start None [] l s has = refl
 first_is m start (Some k) [] l s has =
     let test : from_kind start (start.kind, k) ≡ true = both_true (eqb start.kind start.kind) (not (is_lt (text_cmp k start.key))) (grind (arith, nat_tests)) (not_true (is_lt (text_cmp k start.key)) l.found.1) in
@@ -360,7 +360,7 @@ first_is m start r (e ∷ es) l s has = least_of r l
             absurd (not_none (find space_cmp (start.kind, k) (e ∷ es)) some (find_before (start.kind, k) e es s less))
         not_before k false b some = b
 
-pub least_is : (m : SpaceMap) (start : SpaceKey) (r : Option Text) → IsLeast m start r → r ≡ least_key_from m start.kind start.key
+pub least_is : (m : SpaceMap) (start : KeyView) (r : Option Text) → IsLeast m start r → r ≡ least_key_from m start.kind start.key
 least_is m start r l =
     let kept = retain_keys m (from_kind start) in
     first_is m start r (entries kept) l (entries_sorted kept)

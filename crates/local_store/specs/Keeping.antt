@@ -9,7 +9,8 @@ use Rattle.store_records.specs.declared.change.Commit.{Commit}
 use Rattle.store_records.specs.Spelled.{Saved, committed, saved_of}
 use Rattle.local_store.specs.declared.asked.Asked.{Asked}
 use Rattle.local_store.specs.declared.base.Base.{Base}
-use Rattle.local_store.specs.Slots.{Entries, key_cmp, held, changes_of, AreShort, AreFit}
+use Rattle.local_store.specs.Keys.{key_cmp}
+use Rattle.local_store.specs.Slots.{Entries, held, changes_of, AreShort, AreFit}
 use Rattle.local_store.specs.View.{TxnView, View, most_records}
 
 -- ---- a transaction

@@ -1,5 +1,5 @@
 pub mod Codes
-pub mod Heads
+pub mod Keys
 pub mod Slots
 pub mod View
 pub mod Keeping

@@ -5,8 +5,8 @@ ghost use Rattle.std.specs.List.{AllByRecursion};
 ghost use Rattle.std.specs.BTreeMap.{is_at};
 ghost use Rattle.store_records.specs.Changing.{applied, set_at};
 ghost use Rattle.store_records.specs.Format.{IsSpellableChange};
-ghost use Rattle.local_store.specs.declared.key.SpaceKey.{SpaceKey};
-ghost use Rattle.local_store.specs.Slots.{held, slot_of, value_in, changes_of, key_pair, key_cmp, AreFit, RoomFor};
+ghost use Rattle.local_store.specs.Keys.{KeyView, key_cmp};
+ghost use Rattle.local_store.specs.Slots.{held, slot_of, value_in, changes_of, key_pair, AreFit, RoomFor};
 
 use crate::key::{Slots, SpaceKey, space_key};
 use delos_types::bytes::Bytes;
@@ -65,7 +65,7 @@ impl Base {
 
         // Only a key without a slot takes memory; other keys keep their slots.
         ensures absent { OnErr result (slot_of self.old.slots.entries key ≡ None) }
-        ensures others { (q : SpaceKey) → is_at (key_cmp key) q ≡ false → slot_of self.new.slots.entries q ≡ slot_of self.old.slots.entries q }
+        ensures others { (q : KeyView) → is_at (key_cmp key) q ≡ false → slot_of self.new.slots.entries q ≡ slot_of self.old.slots.entries q }
         ensures fit { AreFit self.new.slots.entries }
         ensures cursor { self.new.cursor ≡ self.old.cursor }
     {
@@ -122,7 +122,7 @@ impl Base {
         requires old { AreFit self.old.slots.entries }
         ensures room { OnOk result (IsSome (slot_of self.new.slots.entries key.now)) }
         ensures same { held self.new.slots.entries ≡ held self.old.slots.entries }
-        ensures grows { (q : SpaceKey) → IsSome (slot_of self.old.slots.entries q) → IsSome (slot_of self.new.slots.entries q) }
+        ensures grows { (q : KeyView) → IsSome (slot_of self.old.slots.entries q) → IsSome (slot_of self.new.slots.entries q) }
         ensures fit { AreFit self.new.slots.entries }
         ensures cursor { self.new.cursor ≡ self.old.cursor }
     {
@@ -143,8 +143,9 @@ impl Base {
         ensures fit { AreFit self.new.slots.entries }
         ensures cursor { self.new.cursor ≡ self.old.cursor }
     {
-        for (key, value) in changes {
-            self.assign(&key, value);
+        let mut changes = changes;
+        for (key, value) in &mut changes {
+            self.assign(key, value.take());
         }
     }
 
@@ -154,7 +155,7 @@ impl Base {
         requires small { IfSome value (λ v. length v < 2 ^ 32) }
         requires old { AreFit self.old.slots.entries }
         ensures assigned { held self.new.slots.entries ≡ set_at (held self.old.slots.entries) (key_pair key.now) value }
-        ensures others { (q : SpaceKey) → is_at (key_cmp key.now) q ≡ false → slot_of self.new.slots.entries q ≡ slot_of self.old.slots.entries q }
+        ensures others { (q : KeyView) → is_at (key_cmp key.now) q ≡ false → slot_of self.new.slots.entries q ≡ slot_of self.old.slots.entries q }
         ensures fit { AreFit self.new.slots.entries }
         ensures cursor { self.new.cursor ≡ self.old.cursor }
     {
@@ -169,7 +170,7 @@ impl Base {
 /// The slot of a key gets a value.
 fn fill(slots: &mut Slots, key: &SpaceKey, value: Bytes)
     requires { IsSome (slot_of slots.old.entries key.now) }
-    ensures { (q : SpaceKey) → slot_of slots.new.entries q ≡ (if is_at (key_cmp key.now) q then Some (Some value) else slot_of slots.old.entries q) }
+    ensures { (q : KeyView) → slot_of slots.new.entries q ≡ (if is_at (key_cmp key.now) q then Some (Some value) else slot_of slots.old.entries q) }
 {
     if let Some(slot) = slots.get_mut(key) {
         *slot = Some(value);

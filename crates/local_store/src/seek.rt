@@ -19,11 +19,11 @@ pub(crate) fn first_shown<'a>(
     ensures { option_copied result ≡ first_shown kind (λ q. is_some (slot_of others.now.entries q)) run.entry }
 {
     for (key, slot) in run {
-        if key.kind != kind {
+        if key.kind() != kind {
             return None;
         }
         if slot.is_some() && others.get(key).is_none() {
-            return Some(&key.key);
+            return Some(key.text());
         }
     }
     None

@@ -3,7 +3,8 @@ ghost use Rattle.std.specs.Prelude.{◌≡◌, ◌++◌, ◌<◌, ◌^◌, IfOk,
 ghost use Rattle.std.specs.List.{AllByRecursion};
 ghost use Rattle.std.specs.Option.{option_copied};
 ghost use Rattle.store_records.specs.Format.{SpellsCommit, IsSpellableChange, change_bytes};
-ghost use Rattle.local_store.specs.Slots.{AreFit, changes_of, key_cmp, slot_of, set_of, set_after};
+ghost use Rattle.local_store.specs.Keys.{key_cmp};
+ghost use Rattle.local_store.specs.Slots.{AreFit, changes_of, slot_of, set_of, set_after};
 ghost use Rattle.std.specs.List.Sorted.{IsStrictlySortedBy};
 ghost use Rattle.std.specs.Map.{keys_of};
 
@@ -29,7 +30,7 @@ pub(crate) fn spell(alloc: Global, cursor: u64, changes: &Slots) -> Result<Vec<u
     let mut out = Vec::with_capacity(alloc, HEAD + MOSTLY * changes.len().min(MANY))?;
     put_head(&mut out, cursor, changes.len() as u64)?;
     for (key, value) in changes {
-        put_change_of(&mut out, key.kind, key.key.as_slice(), value.as_ref())?;
+        put_change_of(&mut out, key.kind(), key.text().as_slice(), value.as_ref())?;
     }
     Ok(out)
 }
@@ -88,7 +89,7 @@ fn put_set(out: &mut Vec<u8>, key: &SpaceKey, value: Option<&Bytes>) -> Result<(
     ensures fits { AllByRecursion IsSpellableChange (set_of key.now (option_copied value.entry)) }
 {
     match value {
-        Some(value) => put_change_of(out, key.kind, key.key.as_slice(), Some(value)),
+        Some(value) => put_change_of(out, key.kind(), key.text().as_slice(), Some(value)),
         None => Ok(()),
     }
 }

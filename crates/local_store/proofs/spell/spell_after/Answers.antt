@@ -5,7 +5,7 @@ use Rattle.std.specs.Map.Iter.{deref_pair}
 use Rattle.std.proofs.lemmas.Map.Iter.{rest_more}
 use Rattle.std.proofs.lemmas.Map.Views.{All-turn}
 use Rattle.delos_types.specs.Spaces.{Text}
-use Rattle.local_store.specs.declared.key.SpaceKey.{SpaceKey}
+use Rattle.local_store.specs.Keys.{KeyView}
 use Rattle.local_store.specs.Slots.{slot_of}
 use Rattle.local_store.proofs.Whole.{small_after, text_step, fit_step}
 use Rattle.local_store.proofs.spell.spell_after.Goals as goal
@@ -26,7 +26,7 @@ loop-key-preserved c =
     let cs = c.args.changes.now.entries in
     let es = c.loop-key.key-iterator in
     let rest = c.next.new.self in
-    let first : SpaceKey × Option Text = (c.in-Some.key.now, c.in-Some.slot.now) in
+    let first : KeyView × Option Text = (c.in-Some.key.now, c.in-Some.slot.now) in
     let split : es ≡ first ∷ rest = rest_more deref_pair es rest c.next.result (c.in-Some.key, c.in-Some.slot) c.in-Some.is c.next.ensures.steps in
     let value = option_copied c.value_after.result in
     record {

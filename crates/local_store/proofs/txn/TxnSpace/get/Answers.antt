@@ -5,7 +5,7 @@ use Rattle.std.specs.Arc.{arc_value}
 use Rattle.std.specs.FinMap as map
 use Rattle.delos_types.specs.Spaces.{Text}
 use Rattle.store_records.specs.Changing.{applied}
-use Rattle.local_store.specs.declared.key.SpaceKey.{SpaceKey}
+use Rattle.local_store.specs.Keys.{KeyView}
 use Rattle.local_store.specs.declared.base.Base.{Base}
 use Rattle.local_store.specs.Slots.{slot_of, value_in, held, changes_of, key_pair}
 use Rattle.local_store.specs.View.{TxnView, contents_of}
@@ -23,6 +23,6 @@ returns c =
     c.value_in.ensures
     ∙ ap (λ (r : Option Text). unwrap_or (slot_of changes key) r) kept
     ∙ sym (get-applied changes c.self.invariant.ordered (held base) key)
-    ∙ ap (λ (k : SpaceKey). map.get (applied (held base) (changes_of changes)) (key_pair k)) c.in_ok-key.ensures
+    ∙ ap (λ (k : KeyView). map.get (applied (held base) (changes_of changes)) (key_pair k)) c.in_ok-key.ensures
     ∙ ap (λ (t : TxnView). map.get (contents_of t) (c.args.kind, c.args.key.now)) c.self.view_is in
     subst (λ (v : Option Text). IfOk c.copied.result (λ made. made ≡ v)) value c.copied.ensures

@@ -4,7 +4,7 @@ use Rattle.std.specs.Option.{option_copied}
 use Rattle.std.specs.Arc.{arc_value}
 use Rattle.delos_types.specs.Spaces.{SpaceMap, Text, least_key_from}
 use Rattle.store_records.specs.Changing.{applied}
-use Rattle.local_store.specs.declared.key.SpaceKey.{SpaceKey}
+use Rattle.local_store.specs.Keys.{KeyView}
 use Rattle.local_store.specs.declared.base.Base.{Base}
 use Rattle.local_store.specs.Slots.{Entries, slot_of, held, changes_of, first_shown, lesser_of}
 use Rattle.local_store.specs.View.{TxnView, contents_of}
@@ -16,14 +16,14 @@ pub returns : goal.returns
 returns c =
     let base = (arc_value c.self.inside.base).slots.entries in
     let changes = c.self.inside.changes.entries in
-    let key : SpaceKey = record { kind = c.args.kind; key = c.args.key.now } in
-    let hidden : SpaceKey → Bool = λ q. is_some (slot_of changes q) in
-    let shown_by : SpaceKey → Bool = λ q. false in
+    let key : KeyView = record { kind = c.args.kind; key = c.args.key.now } in
+    let hidden : KeyView → Bool = λ q. is_some (slot_of changes q) in
+    let shown_by : KeyView → Bool = λ q. false in
     let kept = option_copied c.first_shown-kept.result in
     let set = option_copied c.first_shown-set.result in
     let first_run : c.range.result ≡ from_on key base =
-    c.range.ensures.between tt ∙ ap (λ (k : SpaceKey). from_on k c.deref.result.now.slots.entries) c.in_ok-start.ensures ∙ ap (λ (b : Base). from_on key b.slots.entries) c.deref.ensures in
-    let second_run : c.range-2.result ≡ from_on key changes = c.range-2.ensures.between tt ∙ ap (λ (k : SpaceKey). from_on k changes) c.in_ok-start.ensures in
+    c.range.ensures.between tt ∙ ap (λ (k : KeyView). from_on k c.deref.result.now.slots.entries) c.in_ok-start.ensures ∙ ap (λ (b : Base). from_on key b.slots.entries) c.deref.ensures in
+    let second_run : c.range-2.result ≡ from_on key changes = c.range-2.ensures.between tt ∙ ap (λ (k : KeyView). from_on k changes) c.in_ok-start.ensures in
     let ordered : IsInOrder base = subst (λ (b : Base). IsInOrder b.slots.entries) c.deref.ensures c.range.ensures.ordered in
     let kept_is : kept ≡ first_shown c.args.kind hidden (from_on key base) = c.first_shown-kept.ensures ∙ ap (λ (es : Entries). first_shown c.args.kind hidden es) first_run in
     let set_is : set ≡ first_shown c.args.kind shown_by (from_on key changes) =
