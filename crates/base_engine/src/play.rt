@@ -91,9 +91,9 @@ pub fn recover<R: Replica>(replica: &mut R, word: u64) -> Result<(), Fault>
     ensures any_crash { AnyCrash (R.shows replica.old).disk (R.shows replica.new).disk (SpellsOne R.meaning.spells (MayFind (R.shows replica.old))) }
 {
     match replica.reopen(word) {
-        Reopened::Done => return Ok(()),
-        Reopened::DiskFault => return Err(Fault::Because(Cause::Store)),
-        Reopened::Memory => return Err(Fault::Memory),
+        Reopened::Done => Ok(()),
+        Reopened::DiskFault => Err(Fault::Because(Cause::Store)),
+        Reopened::Memory => Err(Fault::Memory),
     }
 }
 
@@ -132,8 +132,8 @@ pub fn restore<L: SharedLog, R: Replica>(_log: &L, replica: &mut R, word: u64) -
     ensures any_crash { AnyCrash (R.shows replica.old).disk (R.shows replica.new).disk (SpellsOne R.meaning.spells (IsFound L.holds R.meaning.state (L.seen _log.now) (R.shows replica.old).cursor)) }
 {
     match recover(replica, word) {
-        Ok(()) => return Ok(()),
-        Err(fault) => return Err(fault),
+        Ok(()) => Ok(()),
+        Err(fault) => Err(fault),
     }
 }
 
@@ -218,7 +218,7 @@ pub fn sync<L: SharedLog, R: Replica>(log: &mut L, replica: &mut R) -> Result<u6
         Err(fault) => return Err(told(fault)),
     };
     match play(log, replica, tail) {
-        Ok(()) => return Ok(tail),
-        Err(fault) => return Err(fault),
+        Ok(()) => Ok(tail),
+        Err(fault) => Err(fault),
     }
 }

@@ -47,8 +47,8 @@ fn leave_three<L: SharedLog>(
         return Ok(());
     }
     match carry_oldest(alloc, log, outbox) {
-        Ok(()) => return Ok(()),
-        Err(fault) => return Err(fault),
+        Ok(()) => Ok(()),
+        Err(fault) => Err(fault),
     }
 }
 
@@ -260,8 +260,8 @@ fn is_ready<L: SharedLog, R: Replica>(
         Err(fault) => return Err(fault),
     }
     match is_near(replica, word.0, word.1) {
-        Ok(again) => return Ok(again),
-        Err(_) => return Err(Fault::Memory),
+        Ok(again) => Ok(again),
+        Err(_) => Err(Fault::Memory),
     }
 }
 
@@ -314,7 +314,7 @@ pub fn propose<L: SharedLog, R: Replica>(
         return Ok(());
     }
     match send(alloc, log, replica, outbox, item) {
-        Ok(()) => return Ok(()),
-        Err(_) => return Err(Fault::Memory),
+        Ok(()) => Ok(()),
+        Err(_) => Err(Fault::Memory),
     }
 }

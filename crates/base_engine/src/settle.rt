@@ -34,13 +34,13 @@ pub fn carry_oldest<L: SharedLog>(
     match log.append(&outbox.entries[0]) {
         Ok(_) => {
             let _landed = outbox.entries.remove(0);
-            return Ok(());
+            Ok(())
         }
         Err(fault) => match told(fault) {
-            Fault::Memory => return Err(AllocError),
+            Fault::Memory => Err(AllocError),
             Fault::Because(cause) => {
                 lose(outbox, sessions, cause);
-                return Ok(());
+                Ok(())
             }
         },
     }

@@ -90,8 +90,8 @@ fn find_least<L: SharedLog, R: Replica>(
         Err(fault) => return Err(fault),
     }
     match least(replica, nodes) {
-        Ok(position) => return Ok(position),
-        Err(_) => return Err(Fault::Memory),
+        Ok(position) => Ok(position),
+        Err(_) => Err(Fault::Memory),
     }
 }
 
@@ -138,8 +138,8 @@ fn push_through<L: SharedLog, R: Replica>(
         Err(_) => return Err(Fault::Memory),
     }
     match settle_all(alloc, log, outbox) {
-        Ok(()) => return Ok(()),
-        Err(fault) => return Err(fault),
+        Ok(()) => Ok(()),
+        Err(fault) => Err(fault),
     }
 }
 
@@ -177,8 +177,8 @@ pub fn trim_applied<L: SharedLog, R: Replica>(
         Err(_) => return Err(Fault::Memory),
     };
     match log.prefix_trim(position) {
-        Ok(trim) => return Ok(trim),
-        Err(fault) => return Err(told(fault)),
+        Ok(trim) => Ok(trim),
+        Err(fault) => Err(told(fault)),
     }
 }
 
@@ -216,8 +216,8 @@ fn trim_below<L: SharedLog, R: Replica>(
         Err(fault) => return Err(fault),
     }
     match trim_applied(log, replica, nodes) {
-        Ok(trim) => return Ok(trim),
-        Err(fault) => return Err(fault),
+        Ok(trim) => Ok(trim),
+        Err(fault) => Err(fault),
     }
 }
 
@@ -273,8 +273,8 @@ pub fn trim_now<L: SharedLog, R: Replica>(
         Err(fault) => return Err(fault),
     }
     match trim_below(log, replica, nodes) {
-        Ok(trim) => return Ok(trim),
-        Err(fault) => return Err(fault),
+        Ok(trim) => Ok(trim),
+        Err(fault) => Err(fault),
     }
 }
 
@@ -289,7 +289,7 @@ pub fn extend<L: SharedLog>(log: &mut L) -> Result<Extension, Fault>
     ensures blames { IfErr result (λ f. (faults faults' : ℕ) → Blames (L.who log.old) (L.seen log.old) faults f (L.seen log.new) faults') }
 {
     match log.extend() {
-        Ok(extension) => return Ok(extension),
-        Err(fault) => return Err(told(fault)),
+        Ok(extension) => Ok(extension),
+        Err(fault) => Err(told(fault)),
     }
 }

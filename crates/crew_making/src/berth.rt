@@ -66,17 +66,17 @@ fn prepare<K: Terms, S: Replica, C: Chooser>(
     match VirtualLog::new(alloc, Early::<By<K>>::new(who), chooser, shelf_len) {
         Ok(log) => {
             let (log, _) = log.rest();
-            return Ok(Berth {
+            Ok(Berth {
                 replica,
                 log,
                 desks,
-            });
+            })
         }
         Err(parts) => {
-            return Err(OpenNode {
+            Err(OpenNode {
                 replica,
                 chooser: parts.chooser,
-            });
+            })
         }
     }
 }

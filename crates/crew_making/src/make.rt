@@ -146,16 +146,16 @@ pub fn make_crew<L: Loglet, R: Register, K: Terms, S: Replica, C: Chooser>(
             let workers = seat_all::<K, S, C>(alloc, berths, workers);
             // The loglets and the register are as their journal tells.
             let _told = fabric.journal();
-            return Ok(Crew {
+            Ok(Crew {
                 fabric,
                 workers,
                 looks,
-            });
+            })
         }
         Err(parts) => {
             leave_all::<K, S, C>(berths, nodes);
             workers.destroy_empty();
-            return Err(parts);
+            Err(parts)
         }
     }
 }

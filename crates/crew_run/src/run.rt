@@ -14,7 +14,7 @@ ghost use Rattle.node_crew.specs.Turns.{MaySendAll};
 ghost use Rattle.replica_api.specs.Fresh.{IsFreshReplica};
 ghost use Rattle.crew_run.specs.Running.{RunTold};
 
-use crate::tell::{Ended, tell};
+use crate::tell::tell;
 use crew_making::make::make_crew;
 use crew_making::part::part_crew;
 use fabric_core::fabric::Parts;
@@ -22,6 +22,7 @@ use fate_words::chooser::Chooser;
 use fitting_run::told::Told;
 use gate_points::Gate;
 use loglet_api::loglet::Loglet;
+use node_crew::crew::CrewBack;
 use register_api::Register;
 use replica_api::node::OpenNode;
 use replica_api::replica::Replica;
@@ -84,23 +85,23 @@ fn run_by<
     let mut nodes = nodes;
     match make_crew::<L, R, K, S, C>(alloc, cells, register, &mut nodes, lines) {
         Ok(crew) => {
-            let Ended { crew, told } = tell(rt, alloc, crew, lines, gate);
+            let CrewBack { crew, answer: told } = tell(rt, alloc, crew, lines, gate);
             let Parts { cells, register } = part_crew(crew, &mut nodes);
-            return Ran {
+            Ran {
                 cells,
                 register,
                 nodes,
                 told,
-            };
+            }
         }
         Err(parts) => {
             let Parts { cells, register } = parts;
-            return Ran {
+            Ran {
                 cells,
                 register,
                 nodes,
                 told: Err(AllocError),
-            };
+            }
         }
     }
 }

@@ -18,11 +18,11 @@ use fitting_run::told::Told;
 use gate_points::Gate;
 use last_chain::last::{Last, read_last};
 use loglet_api::loglet::Loglet;
-use node_crew::crew::Crew;
-use node_threads::phases::{Played, play_phases};
+use node_crew::crew::{Crew, CrewBack};
+use node_threads::phases::play_phases;
 use register_api::Register;
 use replica_api::replica::Replica;
-use run_closing::close::{Closed, close};
+use run_closing::close::close;
 use run_closing::rows::rows_of;
 use run_ends::ends::{
     each_segment_is_told, reads_change_nothing, what_closed_can_be_told, what_closed_has_ended,
@@ -37,26 +37,20 @@ use turn_scopes::terms::{By, Terms};
 /// The user that reads the chain as a run closes, which is no node.
 const NOBODY: u32 = 0;
 
-/// What a run told, if memory sufficed, and its nodes.
-pub struct Ended<L: Loglet, R: Register, K: Terms, S: Replica, C: Chooser> {
-    pub crew: Crew<L, R, K, S, C>,
-    pub told: Result<Told, AllocError>,
-}
-
 /// Reads the chain a last time, and tells the rows. The nodes have closed, having played `end` entries of the log.
 fn tell_closed<L: Loglet, R: Register, K: Terms, S: Replica, C: Chooser>(
     alloc: Global,
     crew: Crew<L, R, K, S, C>,
     lines: &[NamedLine],
     end: u64,
-) -> Ended<L, R, K, S, C>
+) -> CrewBack<L, R, K, S, C, Told>
     requires run { MayRun K.law }
     requires may { (who : ℕ) (e : Entry) → K.law.may who e → may_of lines.now who e }
     requires floor { FloorIs K.law.floor (length crew.workers.items) }
     requires closed { (log : List Entry) × (length log ≡ end) × HasClosed K.law S.meaning lines.now crew.fabric.journal crew.looks.items log (map (λ w. record { seat = w.seat; desks = w.desks.items }) crew.workers.items) }
     requires sees { SeesAll crew.fabric.journal (λ (w : WorkerEnd). w.seat) (map (λ w. record { seat = w.seat; desks = w.desks.items }) crew.workers.items) end }
     requires stands { CrewStands K.law S.meaning crew.fabric.journal (λ w. w.seat) crew.workers.items }
-    ensures told { IfOk result.told (FitsGivenBack K.law lines.now result.crew.fabric.journal (map (λ w. record { seat = w.seat; desks = w.desks.items }) result.crew.workers.items)) }
+    ensures told { IfOk result.answer (FitsGivenBack K.law lines.now result.crew.fabric.journal (map (λ w. record { seat = w.seat; desks = w.desks.items }) result.crew.workers.items)) }
     ensures stands { CrewStands K.law S.meaning result.crew.fabric.journal (λ w. w.seat) result.crew.workers.items }
     ensures size { length result.crew.workers.items ≡ length crew.workers.items }
 {
@@ -84,22 +78,22 @@ fn tell_closed<L: Loglet, R: Register, K: Terms, S: Replica, C: Chooser>(
     };
     match (answer, rows) {
         (Ok(last), Ok(rows)) => {
-            return Ended {
+            CrewBack {
                 crew,
-                told: Ok(Told {
+                answer: Ok(Told {
                     rows,
                     end,
                     version: last.version,
                     chain: last.chain,
                     down: last.down,
                 }),
-            };
+            }
         }
         _ => {
-            return Ended {
+            CrewBack {
                 crew,
-                told: Err(AllocError),
-            };
+                answer: Err(AllocError),
+            }
         }
     }
 }
@@ -119,7 +113,7 @@ pub fn tell<
     crew: Crew<L, R, K, S, C>,
     lines: &[NamedLine],
     gate: &G,
-) -> Ended<L, R, K, S, C>
+) -> CrewBack<L, R, K, S, C, Told>
     requires run { MayRun K.law }
     requires may { (who : ℕ) (e : Entry) → K.law.may who e → may_of lines.now who e }
     requires floor { FloorIs K.law.floor (length crew.workers.items) }
@@ -128,28 +122,28 @@ pub fn tell<
     requires none { crew.fabric.journal ≡ [] }
     requires fresh { CrewRests K.law S.meaning lines.now 0 0 crew.fabric.journal crew.looks.items (λ w. w.seat) (λ w. w.desks.items) crew.workers.items }
     requires stands { CrewStands K.law S.meaning crew.fabric.journal (λ w. w.seat) crew.workers.items }
-    ensures told { IfOk result.told (FitsGivenBack K.law lines.now result.crew.fabric.journal (map (λ w. record { seat = w.seat; desks = w.desks.items }) result.crew.workers.items)) }
+    ensures told { IfOk result.answer (FitsGivenBack K.law lines.now result.crew.fabric.journal (map (λ w. record { seat = w.seat; desks = w.desks.items }) result.crew.workers.items)) }
     ensures stands { CrewStands K.law S.meaning result.crew.fabric.journal (λ w. w.seat) result.crew.workers.items }
     ensures size { length result.crew.workers.items ≡ length crew.workers.items }
 {
-    let Played { crew, answer } = play_phases(rt, alloc, crew, lines, gate);
+    let CrewBack { crew, answer } = play_phases(rt, alloc, crew, lines, gate);
     match answer {
         Ok(()) => {}
         Err(fault) => {
-            return Ended {
+            return CrewBack {
                 crew,
-                told: Err(fault),
+                answer: Err(fault),
             };
         }
     }
-    let Closed { crew, answer } = close(crew, lines);
+    let CrewBack { crew, answer } = close(crew, lines);
     match answer {
-        Ok(end) => return tell_closed(alloc, crew, lines, end),
+        Ok(end) => tell_closed(alloc, crew, lines, end),
         Err(fault) => {
-            return Ended {
+            CrewBack {
                 crew,
-                told: Err(fault),
-            };
+                answer: Err(fault),
+            }
         }
     }
 }

@@ -58,8 +58,8 @@ fn carry_once<L: Loglet>(
         return Ok(loglet.take(ticket));
     }
     match loglet.carry(ticket, word) {
-        Ok(()) => return Ok(loglet.take(ticket)),
-        Err(Refused::Memory) => return Err(AllocError),
+        Ok(()) => Ok(loglet.take(ticket)),
+        Err(Refused::Memory) => Err(AllocError),
         Err(Refused::Full) => unreachable!(),
     }
 }
@@ -92,15 +92,15 @@ pub fn begin_in<L: Loglet>(
             let call = FabricCall::Begin(cell, kept);
             let answer = FabricAnswer::Begun(ticket);
             journal.push_reserved(Event { who, call, answer });
-            return FabricAnswer::Begun(ticket);
+            FabricAnswer::Begun(ticket)
         }
         Err(Refused::Full) => {
             let call = FabricCall::Begin(cell, kept);
             let answer = FabricAnswer::Full;
             journal.push_reserved(Event { who, call, answer });
-            return FabricAnswer::Full;
+            FabricAnswer::Full
         }
-        Err(Refused::Memory) => return FabricAnswer::Memory,
+        Err(Refused::Memory) => FabricAnswer::Memory,
     }
 }
 

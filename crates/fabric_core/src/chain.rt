@@ -62,12 +62,12 @@ pub fn read_in<R: Register>(
             let copy = copy_into(room, &chain);
             let answer = FabricAnswer::At(version, chain);
             journal.push_reserved(Event { who, call, answer });
-            return FabricAnswer::At(version, copy);
+            FabricAnswer::At(version, copy)
         }
         ReadAnswer::Down => {
             let answer = FabricAnswer::Down;
             journal.push_reserved(Event { who, call, answer });
-            return FabricAnswer::Down;
+            FabricAnswer::Down
         }
     }
 }
@@ -100,23 +100,23 @@ pub fn write_in<R: Register>(
         WriteAnswer::Written(version) => {
             let answer = FabricAnswer::Written(version);
             journal.push_reserved(Event { who, call, answer });
-            return FabricAnswer::Written(version);
+            FabricAnswer::Written(version)
         }
         WriteAnswer::Conflict(version, standing) => {
             let copy = copy_into(room, &standing);
             let answer = FabricAnswer::Conflict(version, standing);
             journal.push_reserved(Event { who, call, answer });
-            return FabricAnswer::Conflict(version, copy);
+            FabricAnswer::Conflict(version, copy)
         }
         WriteAnswer::MetaFault => {
             let answer = FabricAnswer::MetaFault;
             journal.push_reserved(Event { who, call, answer });
-            return FabricAnswer::MetaFault;
+            FabricAnswer::MetaFault
         }
         WriteAnswer::Down => {
             let answer = FabricAnswer::Down;
             journal.push_reserved(Event { who, call, answer });
-            return FabricAnswer::Down;
+            FabricAnswer::Down
         }
     }
 }

@@ -242,18 +242,16 @@ impl<L: Loglet, R: Register, P: Rules> Fabric<L, R, P> {
         ensures { Keeps P.law self.old who call result self.new }
     {
         match call {
-            FabricCall::Begin(cell, op) => return self.begin(who, cell, op),
-            FabricCall::Carry(cell, ticket, word) => return self.carry(who, cell, ticket, word),
-            FabricCall::Forget(cell, ticket) => return self.forget(who, cell, ticket),
-            FabricCall::ReadChain => return self.read_chain(who),
-            FabricCall::WriteChain(expected, chain) => {
-                return self.write_chain(who, expected, chain);
-            }
-            FabricCall::Stop(cell, server, after) => return self.stop(who, cell, server, after),
-            FabricCall::Mend(cell, server, word) => return self.mend(who, cell, server, word),
-            FabricCall::Stray(cell, word) => return self.stray(who, cell, word),
-            FabricCall::StopMeta(after) => return self.stop_meta(who, after),
-            FabricCall::MendMeta(word) => return self.mend_meta(who, word),
+            FabricCall::Begin(cell, op) => self.begin(who, cell, op),
+            FabricCall::Carry(cell, ticket, word) => self.carry(who, cell, ticket, word),
+            FabricCall::Forget(cell, ticket) => self.forget(who, cell, ticket),
+            FabricCall::ReadChain => self.read_chain(who),
+            FabricCall::WriteChain(expected, chain) => { self.write_chain(who, expected, chain) }
+            FabricCall::Stop(cell, server, after) => self.stop(who, cell, server, after),
+            FabricCall::Mend(cell, server, word) => self.mend(who, cell, server, word),
+            FabricCall::Stray(cell, word) => self.stray(who, cell, word),
+            FabricCall::StopMeta(after) => self.stop_meta(who, after),
+            FabricCall::MendMeta(word) => self.mend_meta(who, word),
         }
     }
 }

@@ -50,9 +50,9 @@ pub fn mend_in<L: Loglet>(
             let call = FabricCall::Mend(cell, server, word);
             let answer = FabricAnswer::Set(up);
             journal.push_reserved(Event { who, call, answer });
-            return FabricAnswer::Set(up);
+            FabricAnswer::Set(up)
         }
-        Err(Refused::Memory) => return FabricAnswer::Memory,
+        Err(Refused::Memory) => FabricAnswer::Memory,
         Err(Refused::Full) => unreachable!(),
     }
 }
@@ -76,9 +76,9 @@ pub fn stray_in<L: Loglet>(
             let call = FabricCall::Stray(cell, word);
             let answer = FabricAnswer::Set(true);
             journal.push_reserved(Event { who, call, answer });
-            return FabricAnswer::Set(true);
+            FabricAnswer::Set(true)
         }
-        Err(Refused::Memory) => return FabricAnswer::Memory,
+        Err(Refused::Memory) => FabricAnswer::Memory,
         Err(Refused::Full) => unreachable!(),
     }
 }

@@ -46,18 +46,18 @@ fn keep_look<A: Access, P>(
     let look = or_back!(part, access, answer);
     match notes.push(Note { line: i, look }) {
         Ok(()) => {
-            return Back {
+            Back {
                 part,
                 access,
                 answer: Ok(()),
-            };
+            }
         }
         Err(_) => {
-            return Back {
+            Back {
                 part,
                 access,
                 answer: Err(AllocError),
-            };
+            }
         }
     }
 }
@@ -98,19 +98,19 @@ fn play_admin<A: Access, S: Replica, C: Chooser>(
     match admin {
         Admin::Extend => {
             let looked = extend_line(access, worker);
-            return keep_look(looked, notes, i);
+            keep_look(looked, notes, i)
         }
         Admin::Alive => {
             let looked = report_line(alloc, access, worker, line.node);
-            return keep_look(looked, notes, i);
+            keep_look(looked, notes, i)
         }
         Admin::Retire => {
             let looked = leave_line(alloc, access, worker, line.node);
-            return keep_look(looked, notes, i);
+            keep_look(looked, notes, i)
         }
         Admin::Trim => {
             let looked = trim_line(alloc, access, worker, line.node);
-            return keep_look(looked, notes, i);
+            keep_look(looked, notes, i)
         }
     }
 }
@@ -153,17 +153,13 @@ pub fn play_line<A: Access, S: Replica, C: Chooser>(
             session,
             rank: _,
             command,
-        } => {
-            return log_line(alloc, access, worker, session.id, command);
-        }
+        } => { log_line(alloc, access, worker, session.id, command) }
         Asks::Look { session, query } => {
             // There is a desk for each session: its number is at most 63.
             let _number = session.id.number();
             let looked = look_line(access, worker, session.id, query);
-            return keep_look(looked, notes, i);
+            keep_look(looked, notes, i)
         }
-        Asks::Admin(admin) => {
-            return play_admin(alloc, access, worker, notes, i, line, *admin);
-        }
+        Asks::Admin(admin) => { play_admin(alloc, access, worker, notes, i, line, *admin) }
     }
 }

@@ -135,18 +135,18 @@ pub fn play_turn<A: Access, S: Replica, C: Chooser>(
     } = end_phase(access, worker);
     match answer {
         Ok(_failed) => {
-            return Back {
+            Back {
                 part: worker,
                 access,
                 answer: Ok(()),
-            };
+            }
         }
         Err(fault) => {
-            return Back {
+            Back {
                 part: worker,
                 access,
                 answer: Err(fault),
-            };
+            }
         }
     }
 }

@@ -27,10 +27,8 @@ pub fn settle_log<T: Turns, C: Chooser, R: Replica>(
     ensures carries { OnOk result (CarriesAll T.Law.law node.old node.new) }
 {
     pack(node)?;
-    match settle(node) {
-        Ok(()) => return Ok(()),
-        Err(fault) => return Err(fault),
-    }
+    settle(node)?;
+    Ok(())
 }
 
 /// Lets the log go on in its next loglet, if it has one. A session's cause doesn't keep it from being tried, and no session is
@@ -45,8 +43,8 @@ pub fn extend_log<T: Turns, C: Chooser, R: Replica>(
     ensures replaces { IfOk result (Replaces T.Law.law node.old node.new) }
 {
     match node.extend() {
-        Ok(extension) => return Ok(Looked::Extended(extension)),
-        Err(Fault::Because(cause)) => return Ok(Looked::Failed(cause)),
-        Err(Fault::Memory) => return Err(AllocError),
+        Ok(extension) => Ok(Looked::Extended(extension)),
+        Err(Fault::Because(cause)) => Ok(Looked::Failed(cause)),
+        Err(Fault::Memory) => Err(AllocError),
     }
 }

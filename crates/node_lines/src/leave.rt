@@ -24,8 +24,8 @@ pub fn play_known<T: Turns, C: Chooser, R: Replica>(
 {
     let end = node.known();
     match node.play(end) {
-        Ok(()) => return Ok(None),
-        Err(Fault::Because(cause)) => return Ok(Some(cause)),
-        Err(Fault::Memory) => return Err(AllocError),
+        Ok(()) => Ok(None),
+        Err(Fault::Because(cause)) => Ok(Some(cause)),
+        Err(Fault::Memory) => Err(AllocError),
     }
 }

@@ -85,10 +85,8 @@ pub fn catch_up<T: Turns, C: Chooser, R: Replica>(
     settle(node)?;
     let synced = sync(node)?;
     stop_where_failed(desk, synced);
-    match collect(node, desk) {
-        Ok(()) => return Ok(()),
-        Err(fault) => return Err(fault),
-    }
+    collect(node, desk)?;
+    Ok(())
 }
 
 /// The session is stopped where a sync failed.
@@ -135,10 +133,8 @@ pub fn log_command<T: Turns, C: Chooser, R: Replica>(
     hand_in(node, item)?;
     desk.asked += 1;
     desk.sent += 1;
-    match collect(node, desk) {
-        Ok(()) => return Ok(()),
-        Err(fault) => return Err(fault),
-    }
+    collect(node, desk)?;
+    Ok(())
 }
 
 /// Looks at the table after all that the session asked. What waits is packed, and all that is outstanding is carried to its
@@ -166,10 +162,10 @@ pub fn look<T: Turns, C: Chooser, R: Replica>(
         None => {}
     }
     match sync(node)? {
-        Synced::Failed(cause) => return Ok(Looked::Failed(cause)),
+        Synced::Failed(cause) => Ok(Looked::Failed(cause)),
         Synced::At(after) => {
             let found = node.read(query)?;
-            return Ok(Looked::Found { after, found });
+            Ok(Looked::Found { after, found })
         }
     }
 }
@@ -252,7 +248,7 @@ pub fn make_ready<T: Turns, C: Chooser, R: Replica>(
     }
     catch_up(node, desk)?;
     match cause_of(node, desk) {
-        Some(_) => return Ok(false),
-        None => return Ok(true),
+        Some(_) => Ok(false),
+        None => Ok(true),
     }
 }

@@ -42,8 +42,8 @@ fn catch_up<T: Turns, C: Chooser, R: Replica>(
     pack(node)?;
     settle(node)?;
     match sync(node)? {
-        Synced::Failed(cause) => return Ok(Measured::Failed(cause)),
-        Synced::At(_) => return Ok(Measured::At(node.cursor())),
+        Synced::Failed(cause) => Ok(Measured::Failed(cause)),
+        Synced::At(_) => Ok(Measured::At(node.cursor())),
     }
 }
 
@@ -60,10 +60,10 @@ pub fn measure_clean<T: Turns, C: Chooser, R: Replica>(
     ensures measures { IfOk result (Measures T.Law.law clean_position node.old node.new) }
 {
     match catch_up(node)? {
-        Measured::Failed(cause) => return Ok(Measured::Failed(cause)),
+        Measured::Failed(cause) => Ok(Measured::Failed(cause)),
         Measured::At(_) => {
             let position = node.clean()?;
-            return Ok(Measured::At(position));
+            Ok(Measured::At(position))
         }
     }
 }
@@ -81,10 +81,10 @@ pub fn measure_least<T: Turns, C: Chooser, R: Replica>(
     ensures measures { IfOk result (Measures T.Law.law (λ log. least_position node.old.nodes (unpack_all 0 log)) node.old node.new) }
 {
     match catch_up(node)? {
-        Measured::Failed(cause) => return Ok(Measured::Failed(cause)),
+        Measured::Failed(cause) => Ok(Measured::Failed(cause)),
         Measured::At(_) => {
             let position = node.least()?;
-            return Ok(Measured::At(position));
+            Ok(Measured::At(position))
         }
     }
 }

@@ -33,10 +33,8 @@ fn lay_down<T: Turns, C: Chooser, R: Replica>(
         Ok(()) => {}
         Err(_) => return Err(AllocError),
     }
-    match pack(node) {
-        Ok(()) => return Ok(()),
-        Err(fault) => return Err(fault),
-    }
+    pack(node)?;
+    Ok(())
 }
 
 /// Appends an entry of an item of no session, where nothing waits and nothing is outstanding. Answers why the log failed, if
@@ -58,8 +56,8 @@ pub fn tell<T: Turns, C: Chooser, R: Replica>(
 {
     lay_down(node, item)?;
     match node.settle_all() {
-        Ok(()) => return Ok(None),
-        Err(Fault::Because(cause)) => return Ok(Some(cause)),
-        Err(Fault::Memory) => return Err(AllocError),
+        Ok(()) => Ok(None),
+        Err(Fault::Because(cause)) => Ok(Some(cause)),
+        Err(Fault::Memory) => Err(AllocError),
     }
 }

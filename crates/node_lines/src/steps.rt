@@ -44,10 +44,8 @@ pub fn pack<T: Turns, C: Chooser, R: Replica>(
     ensures replica { OnOk result (node.new.replica ≡ record node.old.replica { kept = [] }) }
     ensures sent { OnOk result (Sent Holds node.old.who node.old.seen node.old.outbox (λ packed. Flushes node.old.replica.origin node.old.replica.kept packed node.new.replica.kept) node.new.seen node.new.outbox) }
 {
-    match node.flush() {
-        Ok(()) => return Ok(()),
-        Err(fault) => return Err(fault),
-    }
+    node.flush()?;
+    Ok(())
 }
 
 /// Carries all that is outstanding to its end.
@@ -61,9 +59,9 @@ pub fn settle<T: Turns, C: Chooser, R: Replica>(
     ensures replica { node.new.replica ≡ node.old.replica }
 {
     match node.settle_all() {
-        Ok(()) => return Ok(()),
-        Err(Fault::Because(_)) => return Ok(()),
-        Err(Fault::Memory) => return Err(AllocError),
+        Ok(()) => Ok(()),
+        Err(Fault::Because(_)) => Ok(()),
+        Err(Fault::Memory) => Err(AllocError),
     }
 }
 
@@ -82,9 +80,9 @@ pub fn sync<T: Turns, C: Chooser, R: Replica>(
     ensures outbox { node.new.outbox ≡ node.old.outbox }
 {
     match node.sync() {
-        Ok(tail) => return Ok(Synced::At(tail)),
-        Err(Fault::Because(cause)) => return Ok(Synced::Failed(cause)),
-        Err(Fault::Memory) => return Err(AllocError),
+        Ok(tail) => Ok(Synced::At(tail)),
+        Err(Fault::Because(cause)) => Ok(Synced::Failed(cause)),
+        Err(Fault::Memory) => Err(AllocError),
     }
 }
 
@@ -104,8 +102,8 @@ pub fn hand_in<T: Turns, C: Chooser, R: Replica>(
     ensures follows { Follows Holds R.meaning node.new.seen node.new.replica }
 {
     match node.propose(item) {
-        Ok(()) => return Ok(()),
-        Err(Fault::Because(_)) => return Err(AllocError),
-        Err(Fault::Memory) => return Err(AllocError),
+        Ok(()) => Ok(()),
+        Err(Fault::Because(_)) => Err(AllocError),
+        Err(Fault::Memory) => Err(AllocError),
     }
 }

@@ -28,8 +28,8 @@ pub fn cut<T: Turns, C: Chooser, R: Replica>(
     ensures cuts { IfOk result (Cuts T.Law.law node.old node.new) }
 {
     match node.trim_applied() {
-        Ok(trim) => return Ok(Looked::Trimmed(trim)),
-        Err(Fault::Because(cause)) => return Ok(Looked::Failed(cause)),
-        Err(Fault::Memory) => return Err(AllocError),
+        Ok(trim) => Ok(Looked::Trimmed(trim)),
+        Err(Fault::Because(cause)) => Ok(Looked::Failed(cause)),
+        Err(Fault::Memory) => Err(AllocError),
     }
 }

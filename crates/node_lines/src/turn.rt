@@ -40,10 +40,7 @@ fn close_it<T: Turns, C: Chooser, R: Replica>(
     if desk.asked == 0 {
         return Ok(());
     }
-    match close(node, desk, failed) {
-        Ok(()) => return Ok(()),
-        Err(fault) => return Err(fault),
-    }
+    close(node, desk, failed)
 }
 
 /// Closes all desks.
@@ -83,10 +80,8 @@ fn collect_it<T: Turns, C: Chooser, R: Replica>(
     if desk.asked == 0 {
         return Ok(());
     }
-    match collect(node, desk) {
-        Ok(()) => return Ok(()),
-        Err(fault) => return Err(fault),
-    }
+    collect(node, desk)?;
+    Ok(())
 }
 
 /// Takes the answers of all sessions.

@@ -42,14 +42,14 @@ fn open_node<E: Layers, D: Disk, C: Chooser>(
         Ok(store) => {
             starts_empty();
             let replica = LocalReplica::new(alloc, number, engines, store);
-            return Ok(OpenNode { replica, chooser });
+            Ok(OpenNode { replica, chooser })
         }
         Err(disk) => {
-            return Err(NodeParts {
+            Err(NodeParts {
                 engines,
                 disk,
                 chooser,
-            });
+            })
         }
     }
 }

@@ -14,7 +14,7 @@ use legal_journal::rules::Rules;
 use locked_turns::desk::Desk;
 use locked_turns::room::Room;
 use loglet_api::loglet::Loglet;
-use node_crew::crew::Crew;
+use node_crew::crew::{Crew, CrewBack};
 use node_lines::lines::Looked;
 use node_workers::worker::Worker;
 use pass_lock::{Pass, Shared};
@@ -26,12 +26,6 @@ use std::marker::Brand;
 use std::sync::Wait;
 use std::thread::Threads;
 use turn_scopes::terms::{By, Terms};
-
-/// The nodes, and whether memory sufficed.
-pub struct Played<L: Loglet, R: Register, K: Terms, S: Replica, C: Chooser> {
-    pub crew: Crew<L, R, K, S, C>,
-    pub answer: Result<(), AllocError>,
-}
 
 /// Where the lines of a phase end, that begin at `from`.
 fn end_of_phase(lines: &[NamedLine], from: usize, phase: u64) -> usize
@@ -111,7 +105,7 @@ pub fn play_phases<
     crew: Crew<L, R, K, S, C>,
     lines: &[NamedLine],
     gate: &G,
-) -> Played<L, R, K, S, C>
+) -> CrewBack<L, R, K, S, C, ()>
     requires run { MayRun K.law }
     requires sends { MaySendAll K.law.may lines.now }
     requires floor { FloorIs K.law.floor (length crew.workers.items) }
@@ -142,25 +136,25 @@ pub fn play_phases<
                 gate,
             );
             let Desk { fabric } = lock.close(main);
-            return Played {
+            CrewBack {
                 crew: Crew {
                     fabric,
                     workers,
                     looks,
                 },
                 answer,
-            };
+            }
         }
         Err(desk) => {
             let Desk { fabric } = desk;
-            return Played {
+            CrewBack {
                 crew: Crew {
                     fabric,
                     workers,
                     looks,
                 },
                 answer: Err(AllocError),
-            };
+            }
         }
     }
 }

@@ -3,3 +3,4 @@ pub mod Collecting
 pub mod Finishing
 pub mod Opening
 pub mod Taking
+pub mod Telling

@@ -24,10 +24,8 @@ fn take_it<T: Turns, C: Chooser, R: Replica>(
     if desk.asked == 0 {
         return Ok(());
     }
-    match collect(node, desk) {
-        Ok(()) => return Ok(()),
-        Err(fault) => return Err(fault),
-    }
+    collect(node, desk)?;
+    Ok(())
 }
 
 /// Takes the answers of all these sessions, by their numbers.

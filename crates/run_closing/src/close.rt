@@ -8,34 +8,27 @@ ghost use Rattle.run_ends.specs.Closing.{WorkerEnd, HasClosed};
 ghost use Rattle.run_closing.specs.Finishing.{SeesAll};
 ghost use Rattle.run_closing.specs.Opening.{OpensFirst};
 
-use crate::finish::{Finished, finish_all};
+use crate::finish::finish_all;
 use crate::open::open_register;
 use crate::take::take_all_nodes;
 use fate_words::chooser::Chooser;
 use loglet_api::loglet::Loglet;
-use node_crew::crew::Crew;
+use node_crew::crew::{Crew, CrewBack};
 use register_api::Register;
 use replica_api::replica::Replica;
 use script_text::asks::NamedLine;
-use std::alloc::AllocError;
 use turn_scopes::terms::Terms;
-
-/// The nodes once they have closed; how much of the log was played, if memory sufficed.
-pub struct Closed<L: Loglet, R: Register, K: Terms, S: Replica, C: Chooser> {
-    pub crew: Crew<L, R, K, S, C>,
-    pub answer: Result<u64, AllocError>,
-}
 
 /// Closes a run whose lines are all played: the register is opened again where it is down; each node in order, but for one that has
 /// left, opens its store again where it is down and plays the log to a tail, and where all have left, the one that has played most of
-/// it; the answers of all sessions are then taken at the node that has played most of it.
+/// it; the answers of all sessions are then taken at the node that has played most of it. The answer is how much of the log was played.
 ///
 /// Cost: at most two events of the register; for each node what it has still to play, and for each session that asked something a look
 /// at the store for each answer that is taken, and one more.
 pub fn close<L: Loglet, R: Register, K: Terms, S: Replica, C: Chooser>(
     crew: Crew<L, R, K, S, C>,
     lines: &[NamedLine],
-) -> Closed<L, R, K, S, C>
+) -> CrewBack<L, R, K, S, C, u64>
     requires run { MayRun K.law }
     requires floor { FloorIs K.law.floor (length crew.workers.items) }
     requires rests { (phase : ℕ) × CrewRests K.law S.meaning lines.now (length lines.now) phase crew.fabric.journal crew.looks.items (λ w. w.seat) (λ w. w.desks.items) crew.workers.items }
@@ -49,39 +42,39 @@ pub fn close<L: Loglet, R: Register, K: Terms, S: Replica, C: Chooser>(
     ensures stands { CrewStands K.law S.meaning result.crew.fabric.journal (λ w. w.seat) result.crew.workers.items }
     ensures size { length result.crew.workers.items ≡ length crew.workers.items }
 {
-    let Finished { crew, answer } = open_register(crew, lines);
+    let CrewBack { crew, answer } = open_register(crew, lines);
     match answer {
         Ok(()) => {}
         Err(fault) => {
-            return Closed {
+            return CrewBack {
                 crew,
                 answer: Err(fault),
             };
         }
     }
-    let Finished { crew, answer } = finish_all(crew, lines);
+    let CrewBack { crew, answer } = finish_all(crew, lines);
     let most = match answer {
         Ok(most) => most,
         Err(fault) => {
-            return Closed {
+            return CrewBack {
                 crew,
                 answer: Err(fault),
             };
         }
     };
-    let Finished { crew, answer } = take_all_nodes(crew, most, lines);
+    let CrewBack { crew, answer } = take_all_nodes(crew, most, lines);
     match answer {
         Ok(()) => {
-            return Closed {
+            CrewBack {
                 crew,
                 answer: Ok(most.cursor),
-            };
+            }
         }
         Err(fault) => {
-            return Closed {
+            CrewBack {
                 crew,
                 answer: Err(fault),
-            };
+            }
         }
     }
 }

@@ -11,13 +11,12 @@ use crate::turns::finish_worker;
 use delos_types::numbers::NodeId;
 use fate_words::chooser::Chooser;
 use loglet_api::loglet::Loglet;
-use node_crew::crew::Crew;
+use node_crew::crew::{Crew, CrewBack};
 use node_lines::lines::Looked;
 use node_workers::back::Back;
 use register_api::Register;
 use replica_api::replica::Replica;
 use script_text::asks::NamedLine;
-use std::alloc::AllocError;
 use turn_scopes::lone::Lone;
 use turn_scopes::terms::Terms;
 
@@ -33,12 +32,6 @@ pub struct Most {
 pub struct Ends {
     pub most: Most,
     pub passed: bool,
-}
-
-/// The nodes, and what was answered, if memory sufficed.
-pub struct Finished<L: Loglet, R: Register, K: Terms, S: Replica, C: Chooser, A> {
-    pub crew: Crew<L, R, K, S, C>,
-    pub answer: Result<A, AllocError>,
 }
 
 /// The node of before, or node `k` where it has played more.
@@ -108,7 +101,7 @@ fn finish_node<L: Loglet, R: Register, K: Terms, S: Replica, C: Chooser>(
     k: usize,
     lines: &[NamedLine],
     last: bool,
-) -> Finished<L, R, K, S, C, Reach>
+) -> CrewBack<L, R, K, S, C, Reach>
     requires run { MayRun K.law }
     requires floor { FloorIs K.law.floor (length crew.workers.items) }
     requires there { k < length crew.workers.items }
@@ -147,7 +140,7 @@ fn finish_node<L: Loglet, R: Register, K: Terms, S: Replica, C: Chooser>(
         Ok(()) => {}
         Err(_) => unreachable!(),
     }
-    Finished {
+    CrewBack {
         crew: Crew {
             fabric: access.fabric,
             workers,
@@ -161,7 +154,7 @@ fn finish_node<L: Loglet, R: Register, K: Terms, S: Replica, C: Chooser>(
 fn finish_each<L: Loglet, R: Register, K: Terms, S: Replica, C: Chooser>(
     crew: Crew<L, R, K, S, C>,
     lines: &[NamedLine],
-) -> Finished<L, R, K, S, C, Ends>
+) -> CrewBack<L, R, K, S, C, Ends>
     requires run { MayRun K.law }
     requires floor { FloorIs K.law.floor (length crew.workers.items) }
     requires rests { HasPlayed K.law S.meaning lines.now crew.fabric.journal crew.looks.items (λ w. w.seat) (λ w. w.desks.items) crew.workers.items }
@@ -185,7 +178,7 @@ fn finish_each<L: Loglet, R: Register, K: Terms, S: Replica, C: Chooser>(
     let mut most = Most { node: 0, cursor: 0 };
     let mut passed = true;
     for k in 0..crew.workers.len() {
-        let Finished { crew: now, answer } = finish_node(crew, k, lines, false);
+        let CrewBack { crew: now, answer } = finish_node(crew, k, lines, false);
         crew = now;
         match answer {
             Ok(reach) => {
@@ -193,14 +186,14 @@ fn finish_each<L: Loglet, R: Register, K: Terms, S: Replica, C: Chooser>(
                 passed = both(passed, reach.passed);
             }
             Err(fault) => {
-                return Finished {
+                return CrewBack {
                     crew,
                     answer: Err(fault),
                 };
             }
         }
     }
-    Finished {
+    CrewBack {
         crew,
         answer: Ok(Ends { most, passed }),
     }
@@ -211,7 +204,7 @@ fn finish_most<L: Loglet, R: Register, K: Terms, S: Replica, C: Chooser>(
     crew: Crew<L, R, K, S, C>,
     ends: Ends,
     lines: &[NamedLine],
-) -> Finished<L, R, K, S, C, Most>
+) -> CrewBack<L, R, K, S, C, Most>
     requires run { MayRun K.law }
     requires floor { FloorIs K.law.floor (length crew.workers.items) }
     requires rests { HasPlayed K.law S.meaning lines.now crew.fabric.journal crew.looks.items (λ w. w.seat) (λ w. w.desks.items) crew.workers.items }
@@ -229,27 +222,27 @@ fn finish_most<L: Loglet, R: Register, K: Terms, S: Replica, C: Chooser>(
     ensures size { length result.crew.workers.items ≡ length crew.workers.items }
 {
     if !ends.passed {
-        return Finished {
+        return CrewBack {
             crew,
             answer: Ok(ends.most),
         };
     }
-    let Finished { crew, answer } = finish_node(crew, ends.most.node, lines, true);
+    let CrewBack { crew, answer } = finish_node(crew, ends.most.node, lines, true);
     match answer {
         Ok(reach) => {
-            return Finished {
+            CrewBack {
                 crew,
                 answer: Ok(Most {
                     node: ends.most.node,
                     cursor: reach.cursor,
                 }),
-            };
+            }
         }
         Err(fault) => {
-            return Finished {
+            CrewBack {
                 crew,
                 answer: Err(fault),
-            };
+            }
         }
     }
 }
@@ -259,7 +252,7 @@ fn finish_most<L: Loglet, R: Register, K: Terms, S: Replica, C: Chooser>(
 pub fn finish_all<L: Loglet, R: Register, K: Terms, S: Replica, C: Chooser>(
     crew: Crew<L, R, K, S, C>,
     lines: &[NamedLine],
-) -> Finished<L, R, K, S, C, Most>
+) -> CrewBack<L, R, K, S, C, Most>
     requires run { MayRun K.law }
     requires floor { FloorIs K.law.floor (length crew.workers.items) }
     requires rests { HasPlayed K.law S.meaning lines.now crew.fabric.journal crew.looks.items (λ w. w.seat) (λ w. w.desks.items) crew.workers.items }
@@ -279,14 +272,14 @@ pub fn finish_all<L: Loglet, R: Register, K: Terms, S: Replica, C: Chooser>(
     ensures stands { CrewStands K.law S.meaning result.crew.fabric.journal (λ w. w.seat) result.crew.workers.items }
     ensures size { length result.crew.workers.items ≡ length crew.workers.items }
 {
-    let Finished { crew, answer } = finish_each(crew, lines);
+    let CrewBack { crew, answer } = finish_each(crew, lines);
     match answer {
-        Ok(ends) => return finish_most(crew, ends, lines),
+        Ok(ends) => finish_most(crew, ends, lines),
         Err(fault) => {
-            return Finished {
+            CrewBack {
                 crew,
                 answer: Err(fault),
-            };
+            }
         }
     }
 }

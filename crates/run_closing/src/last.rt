@@ -43,9 +43,9 @@ fn reopen<T: Turns, C: Chooser, R: Replica>(
         return Ok(());
     }
     match node.recover(0) {
-        Ok(()) => return Ok(()),
-        Err(Fault::Because(_)) => return Ok(()),
-        Err(Fault::Memory) => return Err(AllocError),
+        Ok(()) => Ok(()),
+        Err(Fault::Because(_)) => Ok(()),
+        Err(Fault::Memory) => Err(AllocError),
     }
 }
 
@@ -64,9 +64,9 @@ fn play_out<T: Turns, C: Chooser, R: Replica>(
 {
     reopen(node)?;
     match node.sync() {
-        Ok(_) => return Ok(node.cursor()),
-        Err(Fault::Because(_)) => return Ok(node.cursor()),
-        Err(Fault::Memory) => return Err(AllocError),
+        Ok(_) => Ok(node.cursor()),
+        Err(Fault::Because(_)) => Ok(node.cursor()),
+        Err(Fault::Memory) => Err(AllocError),
     }
 }
 
@@ -86,9 +86,9 @@ fn is_passed<T: Turns, C: Chooser, R: Replica>(
             if left {
                 return Ok(true);
             }
-            return Ok(told);
+            Ok(told)
         }
-        Calls::OfAny => return Ok(false),
+        Calls::OfAny => Ok(false),
     }
 }
 
@@ -115,13 +115,9 @@ pub fn finish<T: Turns, C: Chooser, R: Replica>(
             passed: true,
         });
     }
-    match play_out(node) {
-        Ok(cursor) => {
-            return Ok(Reach {
-                cursor,
-                passed: false,
-            });
-        }
-        Err(fault) => return Err(fault),
-    }
+    let cursor = play_out(node)?;
+    Ok(Reach {
+        cursor,
+        passed: false,
+    })
 }

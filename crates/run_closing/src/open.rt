@@ -4,11 +4,10 @@ ghost use Rattle.last_chain.specs.Last.{OpensOnce};
 ghost use Rattle.node_crew.specs.Crews.{CrewStands};
 ghost use Rattle.run_closing.specs.Finishing.{HasPlayed};
 
-use crate::finish::Finished;
 use fate_words::chooser::Chooser;
 use last_chain::last::open_if_down;
 use loglet_api::loglet::Loglet;
-use node_crew::crew::Crew;
+use node_crew::crew::{Crew, CrewBack};
 use register_api::Register;
 use replica_api::replica::Replica;
 use script_text::asks::NamedLine;
@@ -24,7 +23,7 @@ const NOBODY: u32 = 0;
 pub fn open_register<L: Loglet, R: Register, K: Terms, S: Replica, C: Chooser>(
     crew: Crew<L, R, K, S, C>,
     _lines: &[NamedLine],
-) -> Finished<L, R, K, S, C, ()>
+) -> CrewBack<L, R, K, S, C, ()>
     requires rests { HasPlayed K.law S.meaning _lines.now crew.fabric.journal crew.looks.items (λ w. w.seat) (λ w. w.desks.items) crew.workers.items }
     ensures rests { OnOk result.answer (HasPlayed K.law S.meaning _lines.now result.crew.fabric.journal result.crew.looks.items (λ w. w.seat) (λ w. w.desks.items) result.crew.workers.items) }
     ensures opens { OnOk result.answer (OpensOnce crew.fabric result.crew.fabric) }
@@ -38,7 +37,7 @@ pub fn open_register<L: Loglet, R: Register, K: Terms, S: Replica, C: Chooser>(
     } = crew;
     let mut fabric = fabric;
     let answer = open_if_down(&mut fabric, NOBODY);
-    Finished {
+    CrewBack {
         crew: Crew {
             fabric,
             workers,

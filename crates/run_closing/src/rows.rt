@@ -1,8 +1,7 @@
 //! One row for each line of a script, by the desk of its session, if it has one, and by what its own look came to.
-ghost use Rattle.std.specs.Prelude.{◌≡◌, ◌≤◌, ◌⊎◌, ℕ, IfOk, IsSome, None, Option, Some, true, length, map};
+ghost use Rattle.std.specs.Prelude.{◌≡◌, ◌≤◌, ◌⊎◌, ℕ, IfOk, IsSome, Option, Some, true, length, map};
+ghost use Rattle.std.specs.Option.{option_map};
 ghost use Rattle.table_core.specs.declared.command.Command.{Command};
-ghost use Rattle.table_core.specs.declared.command.Query.{Query};
-ghost use Rattle.script_text.specs.declared.line.Admin.TheVariants.{Extend, Alive, Retire, Trim};
 ghost use Rattle.script_text.specs.declared.line.Session.{Session};
 ghost use Rattle.script_text.specs.declared.asks.Asks.TheVariants as asks;
 ghost use Rattle.fitting_run.specs.Answered.{session_asking};
@@ -10,9 +9,9 @@ ghost use Rattle.fitting_run.specs.Outcomes.{names};
 ghost use Rattle.node_lines.specs.declared.desk.Desk.{Desk};
 ghost use Rattle.node_lines.specs.declared.lines.Looked.{Looked};
 ghost use Rattle.node_lines.specs.declared.lines.Looked.TheVariants as looked;
-ghost use Rattle.node_course.specs.Desks.{IsOfNode};
 ghost use Rattle.run_ends.specs.Ends.{desk_in, desks_at};
-ghost use Rattle.run_ends.specs.Rows.{AreRows, CanTell, IsOfTable, IsRowOf, Tells, TellsIt, desk_for, is_behind};
+ghost use Rattle.run_ends.specs.Rows.{AreRows, CanTell, IsRowOf, Tells, TellsIt, desk_for, is_behind};
+ghost use Rattle.run_closing.specs.Telling.{outcome_by};
 
 use crate::found::copy_of;
 use delos_types::numbers::{NodeId, Rank};
@@ -24,7 +23,7 @@ use node_workers::worker::Worker;
 use replica_api::replica::Replica;
 use row_text::row::{Outcome, Row, Rows, Who};
 use script_text::asks::{Asks, NamedLine};
-use script_text::line::{Admin, Session};
+use script_text::line::Session;
 use std::alloc::{AllocError, Global};
 use virtual_log::extend::Extension;
 
@@ -103,10 +102,7 @@ fn outcome_of<S: Replica, C: Chooser>(
             logged_outcome(alloc, *rank, desk)
         }
         Asks::Look { .. } => look_outcome(alloc, look),
-        Asks::Admin(Admin::Extend) => Ok(extend_outcome(look)),
-        Asks::Admin(Admin::Alive) => Ok(report_outcome(look)),
-        Asks::Admin(Admin::Retire) => Ok(leave_outcome(look)),
-        Asks::Admin(Admin::Trim) => Ok(trim_outcome(look)),
+        Asks::Admin(_) => look_outcome(alloc, look),
     }
 }
 
@@ -159,10 +155,10 @@ fn is_late(answered: Option<u64>, rank: Rank) -> bool
     }
 }
 
-/// What becomes of a read.
+/// What becomes of a line that logs no command: a read, or what a node itself is asked.
 fn look_outcome(alloc: Global, look: &Option<Looked>) -> Result<Outcome, AllocError>
-    requires { (looked : Looked) × (look.now ≡ Some looked) × IsOfTable looked }
-    ensures { IfOk result (λ outcome. (desk : Desk) (session : Session) (query : Query) → Tells (Some desk) look.now (asks.Look session query) outcome) }
+    requires { IsSome look.now }
+    ensures { IfOk result (λ outcome. Some outcome ≡ option_map outcome_by look.now) }
 {
     let Some(look) = look else { unreachable!() };
     match look {
@@ -175,88 +171,20 @@ fn look_outcome(alloc: Global, look: &Option<Looked>) -> Result<Outcome, AllocEr
         }
         Looked::Kept(cause) => Ok(Outcome::Open { cause: *cause }),
         Looked::Failed(cause) => Ok(Outcome::Open { cause: *cause }),
-        Looked::Extended(_) => unreachable!(),
-        Looked::Reported(_) => unreachable!(),
-        Looked::Left => unreachable!(),
-        Looked::Trimmed(_) => unreachable!(),
-    }
-}
-
-/// What becomes of a replacement of the last loglet.
-fn extend_outcome(look: &Option<Looked>) -> Outcome
-    requires { (looked : Looked) × (look.now ≡ Some looked) × IsOfNode Extend looked }
-    ensures { Tells None look.now (asks.Admin Extend) result }
-{
-    let Some(look) = look else { unreachable!() };
-    match look {
-        Looked::Extended(extension) => extended(*extension),
-        Looked::Failed(cause) => Outcome::Open { cause: *cause },
-        Looked::Found { .. } => unreachable!(),
-        Looked::Kept(_) => unreachable!(),
-        Looked::Reported(_) => unreachable!(),
-        Looked::Left => unreachable!(),
-        Looked::Trimmed(_) => unreachable!(),
+        Looked::Extended(extension) => Ok(extended(*extension)),
+        Looked::Reported(clean) => Ok(Outcome::Alive { clean: *clean }),
+        Looked::Left => Ok(Outcome::Retired),
+        Looked::Trimmed(trim) => Ok(Outcome::Trimmed { trim: *trim }),
     }
 }
 
 /// What a replacement came to, as rows tell it.
 fn extended(extension: Extension) -> Outcome
-    ensures { Tells None (Some (looked.Extended extension)) (asks.Admin Extend) result }
+    ensures { result ≡ outcome_by (looked.Extended extension) }
 {
     match extension {
         Extension::Extended { version, start } => Outcome::Extended { version, start },
         Extension::Moved { version } => Outcome::Moved { version },
         Extension::NoSpare => Outcome::NoSpare,
-    }
-}
-
-/// What becomes of a report.
-fn report_outcome(look: &Option<Looked>) -> Outcome
-    requires { (looked : Looked) × (look.now ≡ Some looked) × IsOfNode Alive looked }
-    ensures { Tells None look.now (asks.Admin Alive) result }
-{
-    let Some(look) = look else { unreachable!() };
-    match look {
-        Looked::Reported(clean) => Outcome::Alive { clean: *clean },
-        Looked::Failed(cause) => Outcome::Open { cause: *cause },
-        Looked::Found { .. } => unreachable!(),
-        Looked::Kept(_) => unreachable!(),
-        Looked::Extended(_) => unreachable!(),
-        Looked::Left => unreachable!(),
-        Looked::Trimmed(_) => unreachable!(),
-    }
-}
-
-/// What becomes of a node's leaving.
-fn leave_outcome(look: &Option<Looked>) -> Outcome
-    requires { (looked : Looked) × (look.now ≡ Some looked) × IsOfNode Retire looked }
-    ensures { Tells None look.now (asks.Admin Retire) result }
-{
-    let Some(look) = look else { unreachable!() };
-    match look {
-        Looked::Left => Outcome::Retired,
-        Looked::Failed(cause) => Outcome::Open { cause: *cause },
-        Looked::Found { .. } => unreachable!(),
-        Looked::Kept(_) => unreachable!(),
-        Looked::Extended(_) => unreachable!(),
-        Looked::Reported(_) => unreachable!(),
-        Looked::Trimmed(_) => unreachable!(),
-    }
-}
-
-/// What becomes of a trim.
-fn trim_outcome(look: &Option<Looked>) -> Outcome
-    requires { (looked : Looked) × (look.now ≡ Some looked) × IsOfNode Trim looked }
-    ensures { Tells None look.now (asks.Admin Trim) result }
-{
-    let Some(look) = look else { unreachable!() };
-    match look {
-        Looked::Trimmed(trim) => Outcome::Trimmed { trim: *trim },
-        Looked::Failed(cause) => Outcome::Open { cause: *cause },
-        Looked::Found { .. } => unreachable!(),
-        Looked::Kept(_) => unreachable!(),
-        Looked::Extended(_) => unreachable!(),
-        Looked::Reported(_) => unreachable!(),
-        Looked::Left => unreachable!(),
     }
 }

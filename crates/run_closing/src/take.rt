@@ -4,11 +4,11 @@ ghost use Rattle.node_lines.specs.Workers.{MayRun};
 ghost use Rattle.node_crew.specs.Crews.{CrewStands};
 ghost use Rattle.run_closing.specs.Taking.{CrewTakes};
 
-use crate::finish::{Finished, Most};
+use crate::finish::Most;
 use crate::turns::take_answers;
 use fate_words::chooser::Chooser;
 use loglet_api::loglet::Loglet;
-use node_crew::crew::Crew;
+use node_crew::crew::{Crew, CrewBack};
 use node_workers::back::Back;
 use node_workers::worker::Worker;
 use register_api::Register;
@@ -22,7 +22,7 @@ fn take_own<L: Loglet, R: Register, K: Terms, S: Replica, C: Chooser>(
     crew: Crew<L, R, K, S, C>,
     most: Most,
     _lines: &[NamedLine],
-) -> Finished<L, R, K, S, C, ()>
+) -> CrewBack<L, R, K, S, C, ()>
     requires run { MayRun K.law }
     requires takes { CrewTakes K.law S.meaning _lines.now most.node most.cursor most.node crew.fabric.journal crew.looks.items (λ w. w.seat) (λ w. w.desks.items) crew.workers.items }
     ensures takes { OnOk result.answer (CrewTakes K.law S.meaning _lines.now most.node most.cursor (most.node + 1) result.crew.fabric.journal result.crew.looks.items (λ w. w.seat) (λ w. w.desks.items) result.crew.workers.items) }
@@ -51,7 +51,7 @@ fn take_own<L: Loglet, R: Register, K: Terms, S: Replica, C: Chooser>(
         Ok(()) => {}
         Err(_) => unreachable!(),
     }
-    Finished {
+    CrewBack {
         crew: Crew {
             fabric: access.fabric,
             workers,
@@ -79,7 +79,7 @@ fn take_other<L: Loglet, R: Register, K: Terms, S: Replica, C: Chooser>(
     most: Most,
     k: usize,
     _lines: &[NamedLine],
-) -> Finished<L, R, K, S, C, ()>
+) -> CrewBack<L, R, K, S, C, ()>
     requires run { MayRun K.law }
     requires there { k < length crew.workers.items }
     requires other { most.node ≢ k }
@@ -125,7 +125,7 @@ fn take_other<L: Loglet, R: Register, K: Terms, S: Replica, C: Chooser>(
         Ok(()) => {}
         Err(_) => unreachable!(),
     }
-    Finished {
+    CrewBack {
         crew: Crew {
             fabric: access.fabric,
             workers,
@@ -141,7 +141,7 @@ fn take_node<L: Loglet, R: Register, K: Terms, S: Replica, C: Chooser>(
     most: Most,
     k: usize,
     lines: &[NamedLine],
-) -> Finished<L, R, K, S, C, ()>
+) -> CrewBack<L, R, K, S, C, ()>
     requires run { MayRun K.law }
     requires there { k < length crew.workers.items }
     requires takes { CrewTakes K.law S.meaning lines.now most.node most.cursor k crew.fabric.journal crew.looks.items (λ w. w.seat) (λ w. w.desks.items) crew.workers.items }
@@ -161,7 +161,7 @@ pub fn take_all_nodes<L: Loglet, R: Register, K: Terms, S: Replica, C: Chooser>(
     crew: Crew<L, R, K, S, C>,
     most: Most,
     lines: &[NamedLine],
-) -> Finished<L, R, K, S, C, ()>
+) -> CrewBack<L, R, K, S, C, ()>
     requires run { MayRun K.law }
     requires takes { CrewTakes K.law S.meaning lines.now most.node most.cursor 0 crew.fabric.journal crew.looks.items (λ w. w.seat) (λ w. w.desks.items) crew.workers.items }
     ensures takes { OnOk result.answer (CrewTakes K.law S.meaning lines.now most.node most.cursor (length result.crew.workers.items) result.crew.fabric.journal result.crew.looks.items (λ w. w.seat) (λ w. w.desks.items) result.crew.workers.items) }
@@ -171,19 +171,19 @@ pub fn take_all_nodes<L: Loglet, R: Register, K: Terms, S: Replica, C: Chooser>(
 {
     let mut crew = crew;
     for k in 0..crew.workers.len() {
-        let Finished { crew: now, answer } = take_node(crew, most, k, lines);
+        let CrewBack { crew: now, answer } = take_node(crew, most, k, lines);
         crew = now;
         match answer {
             Ok(()) => {}
             Err(fault) => {
-                return Finished {
+                return CrewBack {
                     crew,
                     answer: Err(fault),
                 };
             }
         }
     }
-    Finished {
+    CrewBack {
         crew,
         answer: Ok(()),
     }

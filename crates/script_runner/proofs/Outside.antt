@@ -1,6 +1,6 @@
 -- What was read of a source, and what is composed of it.
 use Rattle.std.proofs.Common.{◌≡◌, ◌≤◌, ◌∙◌, ℕ, Bool, true, false, if◌then◌else◌, List, [], ◌∷◌, length, take, Option, Some, None, Result, Ok, Err, refl, sym, ap, subst, arith, inl, inr}
-use Rattle.std.specs.Prelude.{IfOk, IfSome, IsSomeAnd}
+use Rattle.std.specs.Prelude.{IfOk, IfSome, IsErrAnd, IsSomeAnd}
 use Rattle.std.specs.declared.alloc.AllocError.{AllocError}
 use Rattle.std.proofs.lemmas.Bool.{cases_lt, and_parts}
 use Rattle.std.proofs.lemmas.List.{take_at, take_all}
@@ -8,20 +8,24 @@ use Rattle.outside_ends.specs.Sources.{LeavesBehind}
 use Rattle.outside_ends.specs.Whole.{IsFront, ReadsUpTo}
 use Rattle.script_text.specs.declared.line.Line.{Line}
 use Rattle.script_text.specs.declared.script.BadLine.{BadLine}
+use Rattle.script_text.specs.declared.script.ParseError.{ParseError}
+use Rattle.script_text.specs.declared.script.ParseError.TheVariants as parse
 use Rattle.script_text.specs.declared.asks.NamedLine.{NamedLine}
 use Rattle.script_text.specs.Lines.{lines_of}
 use Rattle.script_text.specs.Refusal.{refusal_text}
 use Rattle.script_text.specs.Script.{script_of, ReadsScript}
 use Rattle.script_text.specs.Spelling.{IsScript}
 use Rattle.script_words.specs.declared.plan.Plan.{Plan}
-use Rattle.script_words.specs.declared.plan.Task.{Task}
 use Rattle.script_words.specs.declared.plan.Task.TheVariants as task
 use Rattle.script_words.specs.Plans.{bad_words_text}
-use Rattle.made_script.specs.Made.{made_lines, made_text}
 use Rattle.fitting_run.specs.declared.told.Told.{Told}
 use Rattle.script_runner.specs.declared.ended.Status.TheVariants as status
 use Rattle.script_runner.specs.declared.compose.Composed.{Composed}
 use Rattle.script_runner.specs.declared.compose.Failure.{Failure}
+use Rattle.script_runner.specs.declared.lines.NoLines.{NoLines}
+use Rattle.script_runner.specs.declared.lines.NoLines.TheVariants as none
+use Rattle.script_runner.specs.Lines.{AreLinesFor}
+use Rattle.script_runner.specs.Unread.{unparsed}
 use Rattle.crew_run.specs.Running.{RunTold}
 use Rattle.script_runner.specs.Composed.{ComposesRun, IsComposed, Tells, status_of}
 use Rattle.row_text.specs.declared.row.Row.{Row}
@@ -53,11 +57,21 @@ pub front-read : (left after : Option (List ℕ)) (bytes : List ℕ) → ReadsUp
 front-read None after bytes came within = tt
 front-read (Some all) after bytes came within = sym (front_is read_limit all bytes after came within)
 
-pub composes-refusal : (plan : Plan) (left after : Option (List ℕ)) (yard : Shown) (c : Composed) (bytes : List ℕ) (bad : BadLine)
-    → plan.task ≡ task.Run → ReadsUpTo read_limit left after bytes → length bytes ≤ read_limit → script_of plan.nodes bytes ≡ Err bad
-    → (c.end ≡ record { status = status.BadLine; told = None; refused = Some bad }) × (c.text ≡ refusal_text bad) → IsComposed (Some plan) left yard c
-composes-refusal plan left after yard c bytes bad run came within read is =
-    let refused : IsRefused plan left bad = record { read = run; bytes = bytes; front = front-read left after bytes came within; refused = read } in
+-- what isn't parsed for a bad line has that line
+unparsed-bad : (fault : ParseError) (bad : BadLine) → none.Bad bad ≡ unparsed fault → fault ≡ parse.Bad bad
+unparsed-bad parse.Memory bad is = absurd (cc)
+unparsed-bad (parse.Bad other) bad is = cc
+
+pub bad-parsed : {T : Type 0} (answer : Result T NoLines) (fault : ParseError) (bad : BadLine) → answer ≡ Err (none.Bad bad) → IsErrAnd answer (λ e. e ≡ unparsed fault) → fault ≡ parse.Bad bad
+bad-parsed answer fault bad is from = unparsed-bad fault bad (subst (λ r. IsErrAnd r (λ e. e ≡ unparsed fault)) is from)
+
+pub refused-read : (plan : Plan) (left after : Option (List ℕ)) (bytes : List ℕ) (bad : BadLine)
+    → plan.task ≡ task.Run → ReadsUpTo read_limit left after bytes → length bytes ≤ read_limit → script_of plan.nodes bytes ≡ Err bad → IsRefused plan left bad
+refused-read plan left after bytes bad run came within read = record { read = run; bytes = bytes; front = front-read left after bytes came within; refused = read }
+
+pub composes-refusal : (plan : Plan) (left : Option (List ℕ)) (yard : Shown) (c : Composed) (bad : BadLine)
+    → IsRefused plan left bad → (c.end ≡ record { status = status.BadLine; told = None; refused = Some bad }) × (c.text ≡ refusal_text bad) → IsComposed (Some plan) left yard c
+composes-refusal plan left yard c bad refused is =
     subst (λ (e : End). Composes (Some plan) left yard e.status e.told e.refused c.text) (sym is.0) (refused, is.1)
 
 composes-script : (plan : Plan) (left : Option (List ℕ)) (yard : Shown) (c : Composed) (bytes : List ℕ) (script : List Line)
@@ -78,22 +92,14 @@ composes-script plan left yard c bytes script sound comes read run = decide (any
     decide true e = composed status.Open (ap (λ (b : Bool). if b then status.Open else status.Done) e) (ran, run.tells.text, e)
     decide false e = composed status.Done (ap (λ (b : Bool). if b then status.Open else status.Done) e) (ran, run.tells.text, e)
 
-pub composes-run : (plan : Plan) (left after : Option (List ℕ)) (yard : Shown) (c : Composed) (bytes : List ℕ) (script : List Line)
-    → IsPlan plan → plan.task ≡ task.Run → ReadsUpTo read_limit left after bytes → length bytes ≤ 1048576 → IsScript plan.nodes bytes script
-    → ComposesRun plan script yard c → IsComposed (Some plan) left yard c
-composes-run plan left after yard c bytes script sound run came short read ran =
-    composes-script plan left yard c bytes script sound (subst (λ (t : Task). ComesFrom t plan left bytes script) (sym run) (all-read left after bytes came short)) read ran
+-- what the lines that a plan asks for told is composed
+pub composes-lines : (plan : Plan) (left : Option (List ℕ)) (yard : Shown) (c : Composed) (lines : List NamedLine)
+    → IsPlan plan → (asked : AreLinesFor plan left lines) → ComposesRun plan asked.script yard c → IsComposed (Some plan) left yard c
+composes-lines plan left yard c lines sound asked run = composes-script plan left yard c asked.bytes asked.script sound asked.comes asked.spelled run
 
 -- what is read of a spelled script is that script
 pub read-same : (lines script : List Line) → ReadsScript (Ok script) (Ok lines) → script ≡ lines
 read-same lines script e = cc
-
-pub composes-made : (plan : Plan) (left : Option (List ℕ)) (yard : Shown) (c : Composed) (count : ℕ)
-    → IsPlan plan → plan.task ≡ task.Make count → IsScript plan.nodes (made_text plan.seed count plan.nodes) (made_lines plan.seed count plan.nodes)
-    → ComposesRun plan (made_lines plan.seed count plan.nodes) yard c → IsComposed (Some plan) left yard c
-composes-made plan left yard c count sound make read ran =
-    composes-script plan left yard c (made_text plan.seed count plan.nodes) (made_lines plan.seed count plan.nodes) sound
-    (subst (λ (t : Task). ComesFrom t plan left (made_text plan.seed count plan.nodes) (made_lines plan.seed count plan.nodes)) (sym make) (refl, refl)) read ran
 
 -- an open row has no answer of its own
 none-open : (rows : List Row) → all_answered rows ≡ true → any_open rows ≡ false

@@ -1,6 +1,8 @@
 pub mod Fresh
 pub mod Playing
 pub mod Ends
+pub mod Lines
+pub mod Unread
 pub mod Made
 pub mod Standing
 pub mod Composed

@@ -1,16 +1,18 @@
-//! What is to be put: a script is read or made and run, and the text of what it told is made whole.
-ghost use Rattle.std.specs.Prelude.{◌≡◌, ◌≢◌, ◌<◌, ℕ, List, Option, Some, IfOk, All, length, map};
+//! What is to be put: the lines that a plan asks for are run, and the text of what they told is made whole.
+ghost use Rattle.std.specs.Prelude.{◌≡◌, ◌≢◌, ◌<◌, ℕ, List, Option, Some, Err, IfOk, IsSome, All, length, map};
 ghost use Rattle.outside_ends.specs.Faults.{Rose};
 ghost use Rattle.script_text.specs.Refusal.{refusal_text};
-ghost use Rattle.script_text.specs.Spelling.{IsScript};
+ghost use Rattle.script_text.specs.declared.line.Line.{Line};
+ghost use Rattle.script_text.specs.Lines.{lines_of};
 ghost use Rattle.script_words.specs.Plans.{bad_words_text};
 ghost use Rattle.script_words.specs.declared.plan.Plan as plans;
-ghost use Rattle.script_words.specs.declared.plan.Task.TheVariants as task;
 ghost use Rattle.script_runner.specs.Composed.{ComposesRun, IsComposed, Tells, status_of};
 ghost use Rattle.script_runner.specs.Ends.{IsPlan, TakesSource, rows_text, text_of, any_open};
 ghost use Rattle.script_runner.specs.Fresh.{IsFreshFor, shown};
+ghost use Rattle.script_runner.specs.Lines.{AreLinesFor};
 
 use crate::ended::{End, Status};
+use crate::lines::{NoLines, lines_for};
 use crate::over::{Played, play};
 use crate::yard::Yard;
 use delos_types::bytes::Bytes;
@@ -21,24 +23,19 @@ use fitting_run::told::Told;
 use gate_points::Gate;
 use local_replica::layers::Layers;
 use loglet_api::loglet::Loglet;
-use made_script::make::make_script;
 use outside_ends::source::Source;
-use outside_ends::whole::{ReadError, read_up_to};
 use register_api::Register;
 use row_text::render::render;
 use row_text::row::Rows;
 use run_totals::counting::totals;
 use run_totals::text::totals_text;
-use script_text::asks::{NamedLine, named_lines};
+use script_text::asks::NamedLine;
 use script_text::refusal::refusal_text;
-use script_text::script::{BadLine, ParseError, Script, parse};
+use script_text::script::BadLine;
 use script_words::plan::{Plan, Task, bad_words_text};
 use std::alloc::{AllocError, Global};
 use std::sync::Wait;
 use std::thread::Threads;
-
-/// How many bytes of a source are read at most: one more than a script may have.
-const READ_LIMIT: usize = 1_048_577;
 
 /// What is to be put, and how the run ends once it is.
 #[derive(Drop)]
@@ -149,7 +146,7 @@ fn compose_told(
     })
 }
 
-/// Runs a script, and makes the text of what it told.
+/// Runs a script's lines, and makes the text of what they told.
 fn compose_run<
     W: Threads + Wait + Sync,
     L: Loglet + Send,
@@ -162,31 +159,22 @@ fn compose_run<
     rt: &W,
     alloc: Global,
     plan: &Plan,
-    script: Script,
+    lines: &[NamedLine],
     yard: Yard<L, R, E, D, C>,
     gate: &G,
 ) -> Worked<L, R, E, D, C>
     requires fresh { IsFreshFor (λ k. E.kinds k.engines) (λ k. E.waiting k.engines) (λ k. D.view k.disk) plan.now (map L.view yard.shelf.items) (R.view yard.register) yard.nodes.items }
     requires plan { IsPlan plan.now }
-    requires spelled { (bytes : List ℕ) × IsScript plan.now.nodes bytes script }
-    ensures ok { IfOk result.answer (ComposesRun plan.now script (shown L.view R.view (λ k. (D.view k.disk).faults) result.yard.shelf.items result.yard.register result.yard.nodes.items)) }
+    requires lines { (left : Option (List ℕ)) × AreLinesFor plan.now left lines.now }
+    ensures ok { (script : List Line) → lines.now ≡ lines_of script → IfOk result.answer (ComposesRun plan.now script (shown L.view R.view (λ k. (D.view k.disk).faults) result.yard.shelf.items result.yard.register result.yard.nodes.items)) }
+    ensures told { IfOk result.answer (λ c. IsSome c.end.told) }
     ensures source { result.answer ≢ Err Failure.Source }
     ensures loglets { length result.yard.shelf.items ≡ length yard.shelf.items }
     ensures nodes { length result.yard.nodes.items ≡ length yard.nodes.items }
     ensures kinds { map (λ v. v.kind) (map L.view result.yard.shelf.items) ≡ map (λ v. v.kind) (map L.view yard.shelf.items) }
 {
-    let lines = match named_lines(alloc, script) {
-        Ok(lines) => lines,
-        Err(_) => {
-            return Worked {
-                yard,
-                answer: Err(Failure::Memory),
-            };
-        }
-    };
-    let asked = lines.as_slice();
-    let Played { yard, told } = play(rt, alloc, yard, asked, gate);
-    let answer = compose_told(alloc, plan, asked, told);
+    let Played { yard, told } = play(rt, alloc, yard, lines, gate);
+    let answer = compose_told(alloc, plan, lines, told);
     Worked { yard, answer }
 }
 
@@ -222,147 +210,6 @@ fn compose_bad_words(alloc: Global) -> Result<Composed, Failure>
     })
 }
 
-/// Reads the script of the source, runs it, and makes the text.
-fn compose_script<
-    W: Threads + Wait + Sync,
-    L: Loglet + Send,
-    R: Register + Send,
-    E: Layers + Send,
-    D: Disk + Send,
-    C: Chooser + Send,
-    S: Source,
-    G: Gate + Sync,
->(
-    rt: &W,
-    alloc: Global,
-    plan: &Plan,
-    source: &mut S,
-    yard: Yard<L, R, E, D, C>,
-    gate: &G,
-) -> Worked<L, R, E, D, C>
-    requires fresh { IsFreshFor (λ k. E.kinds k.engines) (λ k. E.waiting k.engines) (λ k. D.view k.disk) plan.now (map L.view yard.shelf.items) (R.view yard.register) yard.nodes.items }
-    requires plan { IsPlan plan.now }
-    requires run { plan.now.task ≡ task.Run }
-    ensures ok { IfOk result.answer (IsComposed (Some plan.now) (S.left source.old) (shown L.view R.view (λ k. (D.view k.disk).faults) result.yard.shelf.items result.yard.register result.yard.nodes.items)) }
-    ensures source { result.answer ≡ Err Failure.Source → Rose (S.counted source.old) (S.counted source.new) }
-    ensures untouched { IfOk result.answer (λ c. c.end.told ≡ None → result.yard ≡ yard) }
-    ensures untouched_unread { result.answer ≡ Err Failure.Source → result.yard ≡ yard }
-    ensures loglets { length result.yard.shelf.items ≡ length yard.shelf.items }
-    ensures nodes { length result.yard.nodes.items ≡ length yard.nodes.items }
-    ensures kinds { map (λ v. v.kind) (map L.view result.yard.shelf.items) ≡ map (λ v. v.kind) (map L.view yard.shelf.items) }
-{
-    let bytes = match read_up_to(alloc, source, READ_LIMIT) {
-        Ok(bytes) => bytes,
-        Err(ReadError::Memory) => {
-            return Worked {
-                yard,
-                answer: Err(Failure::Memory),
-            };
-        }
-        Err(ReadError::Failed) => {
-            return Worked {
-                yard,
-                answer: Err(Failure::Source),
-            };
-        }
-    };
-    match parse(alloc, bytes.as_slice(), plan.nodes) {
-        Ok(script) => return compose_run(rt, alloc, plan, script, yard, gate),
-        Err(ParseError::Bad(bad)) => {
-            return Worked {
-                yard,
-                answer: compose_refusal(alloc, bad),
-            };
-        }
-        Err(ParseError::Memory) => {
-            return Worked {
-                yard,
-                answer: Err(Failure::Memory),
-            };
-        }
-    }
-}
-
-/// Makes a script of so many commands, runs it, and makes the text.
-fn compose_made<
-    W: Threads + Wait + Sync,
-    L: Loglet + Send,
-    R: Register + Send,
-    E: Layers + Send,
-    D: Disk + Send,
-    C: Chooser + Send,
-    G: Gate + Sync,
->(
-    rt: &W,
-    alloc: Global,
-    plan: &Plan,
-    count: u16,
-    yard: Yard<L, R, E, D, C>,
-    gate: &G,
-) -> Worked<L, R, E, D, C>
-    requires fresh { IsFreshFor (λ k. E.kinds k.engines) (λ k. E.waiting k.engines) (λ k. D.view k.disk) plan.now (map L.view yard.shelf.items) (R.view yard.register) yard.nodes.items }
-    requires plan { IsPlan plan.now }
-    requires make { plan.now.task ≡ task.Make count }
-    ensures ok { (left : Option (List ℕ)) → IfOk result.answer (IsComposed (Some plan.now) left (shown L.view R.view (λ k. (D.view k.disk).faults) result.yard.shelf.items result.yard.register result.yard.nodes.items)) }
-    ensures source { result.answer ≢ Err Failure.Source }
-    ensures untouched { IfOk result.answer (λ c. c.end.told ≡ None → result.yard ≡ yard) }
-    ensures loglets { length result.yard.shelf.items ≡ length yard.shelf.items }
-    ensures nodes { length result.yard.nodes.items ≡ length yard.nodes.items }
-    ensures kinds { map (λ v. v.kind) (map L.view result.yard.shelf.items) ≡ map (λ v. v.kind) (map L.view yard.shelf.items) }
-{
-    let Ok(bytes) = make_script(alloc, plan.seed, count, plan.nodes) else {
-        return Worked {
-            yard,
-            answer: Err(Failure::Memory),
-        };
-    };
-    // No line of it is bad, so where it isn't read memory ran out.
-    let Ok(script) = parse(alloc, bytes.as_slice(), plan.nodes) else {
-        return Worked {
-            yard,
-            answer: Err(Failure::Memory),
-        };
-    };
-    compose_run(rt, alloc, plan, script, yard, gate)
-}
-
-/// Does what the plan says, and makes the text.
-fn compose_task<
-    W: Threads + Wait + Sync,
-    L: Loglet + Send,
-    R: Register + Send,
-    E: Layers + Send,
-    D: Disk + Send,
-    C: Chooser + Send,
-    S: Source,
-    G: Gate + Sync,
->(
-    rt: &W,
-    alloc: Global,
-    plan: &Plan,
-    source: &mut S,
-    yard: Yard<L, R, E, D, C>,
-    gate: &G,
-) -> Worked<L, R, E, D, C>
-    requires fresh { IsFreshFor (λ k. E.kinds k.engines) (λ k. E.waiting k.engines) (λ k. D.view k.disk) plan.now (map L.view yard.shelf.items) (R.view yard.register) yard.nodes.items }
-    requires plan { IsPlan plan.now }
-    ensures ok { IfOk result.answer (IsComposed (Some plan.now) (S.left source.old) (shown L.view R.view (λ k. (D.view k.disk).faults) result.yard.shelf.items result.yard.register result.yard.nodes.items)) }
-    ensures source { result.answer ≡ Err Failure.Source → Rose (S.counted source.old) (S.counted source.new) × (plan.now.task ≡ task.Run) }
-
-    // A script that is made takes nothing from the source.
-    ensures untaken { (plan.now.task ≡ task.Run → ⊥) → source.new ≡ source.old }
-    ensures untouched { IfOk result.answer (λ c. c.end.told ≡ None → result.yard ≡ yard) }
-    ensures untouched_unread { result.answer ≡ Err Failure.Source → result.yard ≡ yard }
-    ensures loglets { length result.yard.shelf.items ≡ length yard.shelf.items }
-    ensures nodes { length result.yard.nodes.items ≡ length yard.nodes.items }
-    ensures kinds { map (λ v. v.kind) (map L.view result.yard.shelf.items) ≡ map (λ v. v.kind) (map L.view yard.shelf.items) }
-{
-    match plan.task {
-        Task::Run => return compose_script(rt, alloc, plan, source, yard, gate),
-        Task::Make { lines } => return compose_made(rt, alloc, plan, lines, yard, gate),
-    }
-}
-
 /// Composes what the plan asks for, if the words have one.
 pub fn compose<
     W: Threads + Wait + Sync,
@@ -391,13 +238,17 @@ pub fn compose<
     ensures nodes { length result.yard.nodes.items ≡ length yard.nodes.items }
     ensures kinds { map (λ v. v.kind) (map L.view result.yard.shelf.items) ≡ map (λ v. v.kind) (map L.view yard.shelf.items) }
 {
-    match plan {
-        Some(plan) => return compose_task(rt, alloc, plan, source, yard, gate),
-        None => {
-            return Worked {
-                yard,
-                answer: compose_bad_words(alloc),
-            };
-        }
-    }
+    let Some(plan) = plan else {
+        return Worked {
+            yard,
+            answer: compose_bad_words(alloc),
+        };
+    };
+    let answer = match lines_for(alloc, plan, source) {
+        Ok(lines) => return compose_run(rt, alloc, plan, lines.as_slice(), yard, gate),
+        Err(NoLines::Bad(bad)) => compose_refusal(alloc, bad),
+        Err(NoLines::Memory) => Err(Failure::Memory),
+        Err(NoLines::Source) => Err(Failure::Source),
+    };
+    Worked { yard, answer }
 }

@@ -70,24 +70,24 @@ pub fn play<
                 told,
             } = run_lines(rt, alloc, shelf, register, nodes, lines, gate);
             close_all(nodes, &mut parts);
-            return Played {
+            Played {
                 yard: Yard {
                     shelf,
                     register,
                     nodes: parts,
                 },
                 told,
-            };
+            }
         }
         Err(fault) => {
-            return Played {
+            Played {
                 yard: Yard {
                     shelf,
                     register,
                     nodes: parts,
                 },
                 told: Err(fault),
-            };
+            }
         }
     }
 }

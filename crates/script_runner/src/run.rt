@@ -70,9 +70,9 @@ pub fn run<
     ensures nodes { length result.yard.nodes.items ≡ length yard.nodes.items }
 {
     match read_words(alloc, words) {
-        Ok(plan) => return run_plan(rt, alloc, &Some(plan), source, sink, yard, gate),
-        Err(WordsError::BadWords) => return run_plan(rt, alloc, &None, source, sink, yard, gate),
-        Err(WordsError::Memory) => return without_a_text(Status::Memory, yard),
+        Ok(plan) => run_plan(rt, alloc, &Some(plan), source, sink, yard, gate),
+        Err(WordsError::BadWords) => run_plan(rt, alloc, &None, source, sink, yard, gate),
+        Err(WordsError::Memory) => without_a_text(Status::Memory, yard),
     }
 }
 

@@ -173,9 +173,9 @@ impl<L: Loglet> Loglet for StripedLoglet<L> {
                 match carry_inner(stripes, &mut self.pending, number, &course, inner, word) {
                     Ok(()) => {
                         self.told = word;
-                        return Ok(());
+                        Ok(())
                     }
-                    Err(refused) => return Err(refused),
+                    Err(refused) => Err(refused),
                 }
             }
             None => {
@@ -183,9 +183,9 @@ impl<L: Loglet> Loglet for StripedLoglet<L> {
                 match begin_next(&mut self.stripes, &mut self.pending, number, &course, cut) {
                     Ok(()) => {
                         self.told = word;
-                        return Ok(());
+                        Ok(())
                     }
-                    Err(refused) => return Err(refused),
+                    Err(refused) => Err(refused),
                 }
             }
         }
@@ -224,9 +224,9 @@ impl<L: Loglet> Loglet for StripedLoglet<L> {
         match self.stripes[i].stray(rest) {
             Ok(()) => {
                 self.told = word;
-                return Ok(());
+                Ok(())
             }
-            Err(refused) => return Err(refused),
+            Err(refused) => Err(refused),
         }
     }
 
@@ -253,9 +253,9 @@ impl<L: Loglet> Loglet for StripedLoglet<L> {
         match self.stripes[i].restart(server, word) {
             Ok(up) => {
                 self.told = word;
-                return Ok(up);
+                Ok(up)
             }
-            Err(refused) => return Err(refused),
+            Err(refused) => Err(refused),
         }
     }
 }
@@ -305,11 +305,11 @@ fn carry_inner<L: Loglet>(
     match outcome {
         Outcome::Going(inner) => {
             set(pending, number, plan, Some(inner), None);
-            return Ok(());
+            Ok(())
         }
         Outcome::Answered(answer) => {
             hear(pending, number, course, stripe, count, answer);
-            return Ok(());
+            Ok(())
         }
     }
 }

@@ -159,9 +159,9 @@ fn read_at<T: Turns, C: Chooser>(
     };
     let ticket = begin(turns, id, Op::Read(index))?;
     match carry_on(turns, chooser, id, ticket)? {
-        Answer::Got(entry) => return Ok(Some(entry)),
-        Answer::CutAt(_) => return Ok(None),
-        Answer::NoQuorum { unreached } => return Err(Fault::NoQuorum { id, unreached }),
+        Answer::Got(entry) => Ok(Some(entry)),
+        Answer::CutAt(_) => Ok(None),
+        Answer::NoQuorum { unreached } => Err(Fault::NoQuorum { id, unreached }),
         _ => unreachable!(),
     }
 }

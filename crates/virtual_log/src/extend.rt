@@ -63,15 +63,15 @@ fn close_at<T: Turns>(
         Settled::Written => {
             let start = last.start + length;
             known.tail = known.tail.max(start);
-            return Ok(Extension::Extended {
+            Ok(Extension::Extended {
                 version: known.version,
                 start,
-            });
+            })
         }
         Settled::Found => {
-            return Ok(Extension::Moved {
+            Ok(Extension::Moved {
                 version: known.version,
-            });
+            })
         }
     }
 }

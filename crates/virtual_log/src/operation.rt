@@ -52,13 +52,13 @@ pub fn append_to<T: Turns, C: Chooser>(
     let copy = entry.clone()?;
     let ticket = begin(turns, segment.id, Op::Append(copy))?;
     match carry_on(turns, chooser, segment.id, ticket)? {
-        Answer::Placed(place) => return Ok(Some(segment.start + place)),
-        Answer::Sealed => return Ok(None),
+        Answer::Placed(place) => Ok(Some(segment.start + place)),
+        Answer::Sealed => Ok(None),
         Answer::NoQuorum { unreached } => {
-            return Err(Fault::NoQuorum {
+            Err(Fault::NoQuorum {
                 id: segment.id,
                 unreached,
-            });
+            })
         }
         _ => unreachable!(),
     }
@@ -96,13 +96,13 @@ pub fn find_tail<T: Turns, C: Chooser>(
 {
     let ticket = begin(turns, segment.id, Op::Tail)?;
     match carry_on(turns, chooser, segment.id, ticket)? {
-        Answer::OpenTail(length) => return Ok(FoundTail::Open(segment.start + length)),
-        Answer::SealedTail(length) => return Ok(FoundTail::Sealed(length)),
+        Answer::OpenTail(length) => Ok(FoundTail::Open(segment.start + length)),
+        Answer::SealedTail(length) => Ok(FoundTail::Sealed(length)),
         Answer::NoQuorum { unreached } => {
-            return Err(Fault::NoQuorum {
+            Err(Fault::NoQuorum {
                 id: segment.id,
                 unreached,
-            });
+            })
         }
         _ => unreachable!(),
     }
@@ -127,8 +127,8 @@ pub fn seal<T: Turns, C: Chooser>(turns: &mut T, chooser: &mut C, id: u32) -> Re
 {
     let ticket = begin(turns, id, Op::Seal)?;
     match carry_on(turns, chooser, id, ticket)? {
-        Answer::SealDone => return Ok(()),
-        Answer::NoQuorum { unreached } => return Err(Fault::NoQuorum { id, unreached }),
+        Answer::SealDone => Ok(()),
+        Answer::NoQuorum { unreached } => Err(Fault::NoQuorum { id, unreached }),
         _ => unreachable!(),
     }
 }

@@ -98,8 +98,8 @@ fn trim_segment<T: Turns, C: Chooser>(
     let length = length_below(segment, n);
     let ticket = begin(turns, id, Op::Trim(length))?;
     match carry_on(turns, chooser, id, ticket)? {
-        Answer::TrimDone => return Ok(()),
-        Answer::NoQuorum { unreached } => return Err(Fault::NoQuorum { id, unreached }),
+        Answer::TrimDone => Ok(()),
+        Answer::NoQuorum { unreached } => Err(Fault::NoQuorum { id, unreached }),
         _ => unreachable!(),
     }
 }

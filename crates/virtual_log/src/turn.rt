@@ -37,9 +37,9 @@ pub fn look<T: Turns>(turns: &mut T) -> Result<(u64, Chain), Fault>
     ensures closes { Operates (T.who turns.old) None None (T.seen turns.old) (T.seen turns.new) }
 {
     match turns.turn(FabricCall::ReadChain) {
-        FabricAnswer::At(version, chain) => return Ok((version, chain)),
-        FabricAnswer::Down => return Err(Fault::Meta),
-        FabricAnswer::Memory => return Err(Fault::Memory),
+        FabricAnswer::At(version, chain) => Ok((version, chain)),
+        FabricAnswer::Down => Err(Fault::Meta),
+        FabricAnswer::Memory => Err(Fault::Memory),
         _ => unreachable!(),
     }
 }
@@ -62,9 +62,9 @@ pub fn begin<T: Turns>(turns: &mut T, cell: u32, op: Op) -> Result<Ticket, Fault
     ensures refused { OnErr result (Operates (T.who turns.old) None None (T.seen turns.old) (T.seen turns.new)) }
 {
     match turns.turn(FabricCall::Begin(cell, op)) {
-        FabricAnswer::Begun(ticket) => return Ok(ticket),
-        FabricAnswer::Full => return Err(Fault::Full { id: cell }),
-        FabricAnswer::Memory => return Err(Fault::Memory),
+        FabricAnswer::Begun(ticket) => Ok(ticket),
+        FabricAnswer::Full => Err(Fault::Full { id: cell }),
+        FabricAnswer::Memory => Err(Fault::Memory),
         _ => unreachable!(),
     }
 }
@@ -81,9 +81,9 @@ pub fn forget<T: Turns>(turns: &mut T, cell: u32, ticket: Ticket) -> bool
     ensures calm { CalmSince (T.who turns.old) (T.seen turns.old) (T.seen turns.new) }
 {
     match turns.turn(FabricCall::Forget(cell, ticket)) {
-        FabricAnswer::Gone => return true,
-        FabricAnswer::NoTicket => return true,
-        FabricAnswer::Memory => return false,
+        FabricAnswer::Gone => true,
+        FabricAnswer::NoTicket => true,
+        FabricAnswer::Memory => false,
         _ => unreachable!(),
     }
 }

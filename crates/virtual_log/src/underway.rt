@@ -75,15 +75,15 @@ fn due(known: &Known, step: Step) -> Step
             if segment.id < id {
                 return Step::Starting;
             }
-            return Step::Asking { segment };
+            Step::Asking { segment }
         }
         Step::Closing { segment, length } => {
             if segment.id < id {
                 return Step::Starting;
             }
-            return Step::Closing { segment, length };
+            Step::Closing { segment, length }
         }
-        step => return step,
+        step => step,
     }
 }
 
@@ -116,10 +116,10 @@ fn start<T: Turns>(turns: &mut T, known: &Known, going: &mut Going) -> Result<Op
     match turns.turn(FabricCall::Begin(segment.id, Op::Append(copy))) {
         FabricAnswer::Begun(ticket) => {
             going.step = Step::Appending { segment, ticket };
-            return Ok(None);
+            Ok(None)
         }
-        FabricAnswer::Full => return Err(Fault::Full { id: segment.id }),
-        FabricAnswer::Memory => return Err(Fault::Memory),
+        FabricAnswer::Full => Err(Fault::Full { id: segment.id }),
+        FabricAnswer::Memory => Err(Fault::Memory),
         _ => unreachable!(),
     }
 }
@@ -144,28 +144,28 @@ fn carry_append<T: Turns, C: Chooser>(
 {
     let word = chooser.word();
     match turns.turn(FabricCall::Carry(segment.id, ticket, word)) {
-        FabricAnswer::Going => return Ok(None),
+        FabricAnswer::Going => Ok(None),
         FabricAnswer::Done(answer) => match answer {
             Answer::Placed(place) => {
                 let position = segment.start + place;
                 known.tail = known.tail.max(position + 1);
-                return Ok(Some(position));
+                Ok(Some(position))
             }
             Answer::Sealed => {
                 going.step = Step::Reading { segment };
-                return Ok(None);
+                Ok(None)
             }
             Answer::NoQuorum { unreached } => {
-                return Err(Fault::NoQuorum {
+                Err(Fault::NoQuorum {
                     id: segment.id,
                     unreached,
-                });
+                })
             }
             _ => unreachable!(),
         },
         FabricAnswer::Memory => {
             going.step = forget(turns, segment.id, ticket);
-            return Err(Fault::Memory);
+            Err(Fault::Memory)
         }
         _ => unreachable!(),
     }
@@ -191,10 +191,10 @@ fn read<T: Turns>(
             known.version = version;
             known.chain = chain;
             going.step = Step::Asking { segment };
-            return Ok(None);
+            Ok(None)
         }
-        FabricAnswer::Down => return Err(Fault::Meta),
-        FabricAnswer::Memory => return Err(Fault::Memory),
+        FabricAnswer::Down => Err(Fault::Meta),
+        FabricAnswer::Memory => Err(Fault::Memory),
         _ => unreachable!(),
     }
 }
@@ -217,10 +217,10 @@ fn ask<T: Turns>(
     match turns.turn(FabricCall::Begin(segment.id, Op::Tail)) {
         FabricAnswer::Begun(ticket) => {
             going.step = Step::Finding { segment, ticket };
-            return Ok(None);
+            Ok(None)
         }
-        FabricAnswer::Full => return Err(Fault::Full { id: segment.id }),
-        FabricAnswer::Memory => return Err(Fault::Memory),
+        FabricAnswer::Full => Err(Fault::Full { id: segment.id }),
+        FabricAnswer::Memory => Err(Fault::Memory),
         _ => unreachable!(),
     }
 }
@@ -245,23 +245,23 @@ fn find<T: Turns, C: Chooser>(
 {
     let word = chooser.word();
     match turns.turn(FabricCall::Carry(segment.id, ticket, word)) {
-        FabricAnswer::Going => return Ok(None),
+        FabricAnswer::Going => Ok(None),
         FabricAnswer::Done(answer) => match answer {
             Answer::SealedTail(length) => {
                 going.step = Step::Closing { segment, length };
-                return Ok(None);
+                Ok(None)
             }
             Answer::NoQuorum { unreached } => {
-                return Err(Fault::NoQuorum {
+                Err(Fault::NoQuorum {
                     id: segment.id,
                     unreached,
-                });
+                })
             }
             _ => unreachable!(),
         },
         FabricAnswer::Memory => {
             going.step = forget(turns, segment.id, ticket);
-            return Err(Fault::Memory);
+            Err(Fault::Memory)
         }
         _ => unreachable!(),
     }
@@ -289,16 +289,16 @@ fn close<T: Turns>(
     match turns.turn(FabricCall::WriteChain(known.version, next)) {
         FabricAnswer::Written(_) => {
             going.step = Step::Reading { segment };
-            return Ok(None);
+            Ok(None)
         }
         FabricAnswer::Conflict(version, chain) => {
             known.version = version;
             known.chain = chain;
-            return Ok(None);
+            Ok(None)
         }
-        FabricAnswer::MetaFault => return Err(Fault::Meta),
-        FabricAnswer::Down => return Err(Fault::Meta),
-        FabricAnswer::Memory => return Err(Fault::Memory),
+        FabricAnswer::MetaFault => Err(Fault::Meta),
+        FabricAnswer::Down => Err(Fault::Meta),
+        FabricAnswer::Memory => Err(Fault::Memory),
         _ => unreachable!(),
     }
 }
@@ -347,30 +347,30 @@ fn advance<T: Turns, C: Chooser>(
         (T.seen turns.new) known.new going.new result }
 {
     match &going.step {
-        Step::Starting => return start(turns, known, going),
+        Step::Starting => start(turns, known, going),
         Step::Appending { segment, ticket } => {
             let (segment, ticket) = (*segment, *ticket);
-            return carry_append(turns, chooser, known, going, segment, ticket);
+            carry_append(turns, chooser, known, going, segment, ticket)
         }
         Step::Reading { segment } => {
             let segment = *segment;
-            return read(turns, known, going, segment);
+            read(turns, known, going, segment)
         }
         Step::Asking { segment } => {
             let segment = *segment;
-            return ask(turns, known, going, segment);
+            ask(turns, known, going, segment)
         }
         Step::Finding { segment, ticket } => {
             let (segment, ticket) = (*segment, *ticket);
-            return find(turns, chooser, known, going, segment, ticket);
+            find(turns, chooser, known, going, segment, ticket)
         }
         Step::Closing { segment, length } => {
             let (segment, length) = (*segment, *length);
-            return close(turns, alloc, known, going, segment, length);
+            close(turns, alloc, known, going, segment, length)
         }
         Step::Dropping { cell, ticket } => {
             let (cell, ticket) = (*cell, *ticket);
-            return drop_and_start(turns, known, going, cell, ticket);
+            drop_and_start(turns, known, going, cell, ticket)
         }
     }
 }
@@ -446,13 +446,13 @@ pub fn start_append_on<T: Turns>(
     let kept = entry.clone()?;
     match turns.turn(FabricCall::Begin(segment.id, Op::Append(copy))) {
         FabricAnswer::Begun(ticket) => {
-            return Ok(Going {
+            Ok(Going {
                 entry: kept,
                 step: Step::Appending { segment, ticket },
-            });
+            })
         }
-        FabricAnswer::Full => return Err(Fault::Full { id: segment.id }),
-        FabricAnswer::Memory => return Err(Fault::Memory),
+        FabricAnswer::Full => Err(Fault::Full { id: segment.id }),
+        FabricAnswer::Memory => Err(Fault::Memory),
         _ => unreachable!(),
     }
 }

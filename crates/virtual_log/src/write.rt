@@ -88,11 +88,11 @@ fn write_over<T: Turns>(turns: &mut T, expected: u64, next: Chain) -> Result<Rep
     ensures closes { Operates (T.who turns.old) None None (T.seen turns.old) (T.seen turns.new) }
 {
     match turns.turn(FabricCall::WriteChain(expected, next)) {
-        FabricAnswer::Written(version) => return Ok(Reply::Written(version)),
-        FabricAnswer::Conflict(version, chain) => return Ok(Reply::Conflict(version, chain)),
-        FabricAnswer::MetaFault => return Err(Fault::Meta),
-        FabricAnswer::Down => return Err(Fault::Meta),
-        FabricAnswer::Memory => return Err(Fault::Memory),
+        FabricAnswer::Written(version) => Ok(Reply::Written(version)),
+        FabricAnswer::Conflict(version, chain) => Ok(Reply::Conflict(version, chain)),
+        FabricAnswer::MetaFault => Err(Fault::Meta),
+        FabricAnswer::Down => Err(Fault::Meta),
+        FabricAnswer::Memory => Err(Fault::Memory),
         _ => unreachable!(),
     }
 }

@@ -33,8 +33,8 @@ impl First {
             return self.second.wait();
         }
         match self.act.take() {
-            Some(act) => return self.second.act(act),
-            None => return self.second.wait(),
+            Some(act) => self.second.act(act),
+            None => self.second.wait(),
         }
     }
 }

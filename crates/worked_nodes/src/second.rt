@@ -134,8 +134,8 @@ impl Second {
         ensures who { self.new.who ≡ self.old.who }
     {
         match act {
-            Act::Extend => return self.extend(),
-            Act::Trim => return self.trim(),
+            Act::Extend => self.extend(),
+            Act::Trim => self.trim(),
         }
     }
 

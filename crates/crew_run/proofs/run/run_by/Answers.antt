@@ -30,7 +30,7 @@ returns-in-Ok-clause-told g c =
     (RunTold c.args.lines.now (record { cells = map g.L.Loglet.view q.result.cells.items; register = g.R.Register.view q.result.register; disks = map (λ n. (r.shows n.replica).faults) q.new.nodes.items }))
     (λ o h. run_told p.law c.args.lines.now t.fabric.journal (λ w. w.seat) (λ w. w.desks.items) (λ n. r.shows n.replica) q.new.nodes.items t.workers.items
     (map g.L.Loglet.view q.result.cells.items) (g.R.Register.view q.result.register) o q.ensures.told q.ensures.nodes h)
-    c.tell-crew.result.told c.tell-crew.ensures.told
+    c.tell-crew.result.answer c.tell-crew.ensures.told
 
 pub returns-in-Ok-clause-size : goal.returns-in-Ok-clause-size
 returns-in-Ok-clause-size g c =

@@ -33,8 +33,8 @@ hand_in-requires-clause-own g c =
     let cmd = c.args.command.now in
     subst (λ (i : Item). p.law.may n.who (packed n.replica.origin (n.replica.kept ++ i ∷ []))) (sym (c.in_ok-item.ensures.item ∙ ap (λ k. session_item d.session k cmd) c.in-Some.ensures.value)) c.requires.own
 
-pub returns-in-Ok-clause-kept : goal.returns-in-Ok-clause-kept
-returns-in-Ok-clause-kept g c =
+pub returns-clause-kept : goal.returns-clause-kept
+returns-clause-kept g c =
     let n = c.args.node.now in
     let d = c.args.desk.now in
     let m = c.hand_in.new.node in
@@ -51,19 +51,19 @@ collect-requires-clause-acted g c =
     answers_at p.law m.seen m.replica.cursor d.session d.answers.items k.later.legal
     (answers_later p.law c.requires.floor n.seen m.seen n.replica.cursor m.replica.cursor d.session d.answers.items k.later.legal (k.later.more, k.later.seen) k.forward c.requires.desk.acted)
 
-pub returns-in-Ok-clause-hands : goal.returns-in-Ok-clause-hands
-returns-in-Ok-clause-hands g c =
+pub returns-clause-hands : goal.returns-clause-hands
+returns-clause-hands g c =
     let d = c.args.desk.now in
     let own = ap (rank_under d.session) c.in_ok-item.ensures.says ∙ own_under d.session c.in-Some.rank (Some c.args.command.now) ∙ ap (λ k. Some k) c.in-Some.ensures.value in
     c.in_ok-hand_in.ensures.hands d.session d.sent own
 
-pub returns-in-Ok-clause-desk : goal.returns-in-Ok-clause-desk
-returns-in-Ok-clause-desk g c =
+pub returns-clause-desk : goal.returns-clause-desk
+returns-clause-desk g c =
     let p = g.T.Law.Rules in
     let r = g.R.Replica in
     let d = c.args.desk.now in
     let new = c.collect.new.desk in
     let own = ap (rank_under d.session) c.in_ok-item.ensures.says ∙ own_under d.session c.in-Some.rank (Some c.args.command.now) ∙ ap (λ k. Some k) c.in-Some.ensures.value in
     desk_logged p.law c.requires.floor r.meaning.state c.args.node.now c.hand_in.new.node d.session d new new.answers.items c.in_ok-hand_in.ensures.follows.now c.requires.desk c.requires.stopped c.requires.given
-    c.requires.near (c.in_ok-hand_in.ensures.hands d.session d.sent own) c.in-Ok.ensures.acted refl
-    (ap (λ (x : Desk). x.session) c.in-Ok.ensures.rest) (ap (λ (x : Desk). x.asked) c.in-Ok.ensures.rest) (ap (λ (x : Desk). x.sent) c.in-Ok.ensures.rest) (ap (λ (x : Desk). x.answered) c.in-Ok.ensures.rest)
+    c.requires.near (c.in_ok-hand_in.ensures.hands d.session d.sent own) c.in_ok-collect.ensures.acted refl
+    (ap (λ (x : Desk). x.session) c.in_ok-collect.ensures.rest) (ap (λ (x : Desk). x.asked) c.in_ok-collect.ensures.rest) (ap (λ (x : Desk). x.sent) c.in_ok-collect.ensures.rest) (ap (λ (x : Desk). x.answered) c.in_ok-collect.ensures.rest)

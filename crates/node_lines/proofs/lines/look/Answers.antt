@@ -26,8 +26,8 @@ returns-in-Failed-clause-looks g c =
       looks = (refl, (c.in-None.ensures.stopped refl, subst (λ (o : OutboxView). cause_in c.args.desk.now.session o.given ≡ None) (sym c.in_ok-cause.ensures.outbox) (c.in-None.ensures.given refl)));
     }
 
-pub returns-in-At-clause-looks : goal.returns-in-At-clause-looks
-returns-in-At-clause-looks g c =
+pub returns-in_ok-found-in-At-clause-looks : goal.returns-in_ok-found-in-At-clause-looks
+returns-in_ok-found-in-At-clause-looks g c =
     let p = g.T.Law.Rules in
     let r = g.R.Replica in
     let old = c.args.node.now in

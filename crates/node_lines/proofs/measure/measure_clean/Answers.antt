@@ -12,8 +12,8 @@ returns-in-Failed g c =
     let new = c.catch_up.new.node in
     record { measures = measures_none p.law length clean_position old new c.in-Failed.cause (subst (Measures p.law length old new) c.in-Failed.is c.in_ok-cause.ensures.measures) }
 
-pub returns-in-At : goal.returns-in-At
-returns-in-At g c =
+pub returns-in_ok-position-in-At : goal.returns-in_ok-position-in-At
+returns-in_ok-position-in-At g c =
     let p = g.T.Law.Rules in
     let old = c.args.node.now in
     let new = c.catch_up.new.node in

@@ -20,8 +20,8 @@ pack-requires-clause-kept g c =
     (c.in-Ok.ensures.near (plain-near n.replica.contents c.args.item c.requires.plain)).0 in
     first.goes.packs can
 
-pub returns-in-Ok-pack : goal.returns-in-Ok-pack
-returns-in-Ok-pack g c =
+pub returns : goal.returns
+returns g c =
     let p = g.T.Law.Rules in
     let n = c.args.node.now in
     let m = c.propose.new.self in
@@ -30,5 +30,5 @@ returns-in-Ok-pack g c =
     let sent = near.0 in
     let first : Moves p.law n m [] = moves-plain p.law c.requires.floor n m c.args.item can c.requires.item c.in-Ok.ensures.keeps (plain-rank c.args.item c.requires.plain) sent in
     record {
-      lays = lays-down p.law c.requires.floor n m c.pack.new.node c.args.item first c.in-Ok-pack.ensures.moves c.requires.none c.requires.kept c.in-Ok-pack.ensures.kept sent c.in-Ok-pack.ensures.sent near.2 c.in-Ok-pack.ensures.replica;
+      lays = lays-down p.law c.requires.floor n m c.pack.new.node c.args.item first c.in_ok-pack.ensures.moves c.requires.none c.requires.kept c.in_ok-pack.ensures.kept sent c.in_ok-pack.ensures.sent near.2 c.in_ok-pack.ensures.replica;
     }

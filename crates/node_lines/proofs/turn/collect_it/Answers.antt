@@ -11,12 +11,12 @@ collect-requires-clause-acted g c =
     let d = c.args.desk.now in
     answers_at p.law n.seen n.replica.cursor d.session d.answers.items c.requires.legal c.requires.desk.acted
 
-pub returns-in-Ok-clause-desk : goal.returns-in-Ok-clause-desk
-returns-in-Ok-clause-desk g c =
+pub returns-clause-desk : goal.returns-clause-desk
+returns-clause-desk g c =
     let p = g.T.Law.Rules in
     let n = c.args.node.now in
     let d = c.args.desk.now in
     let x = c.collect.new.desk in
     let rest = c.collect.ensures.rest in
-    desk_collected p.law c.requires.floor g.R.Replica.meaning.state n d.session d x.answers.items x c.requires.legal c.requires.follows.now c.requires.desk c.in-Ok.ensures.acted refl
+    desk_collected p.law c.requires.floor g.R.Replica.meaning.state n d.session d x.answers.items x c.requires.legal c.requires.follows.now c.requires.desk c.in_ok-collect.ensures.acted refl
     (ap (λ (y : Desk). y.session) rest) (ap (λ (y : Desk). y.asked) rest) (ap (λ (y : Desk). y.sent) rest) (λ none. sym (ap (λ (y : Desk). y.stopped) rest) ∙ none) (λ none. ap (λ (y : Desk). y.answered) rest)

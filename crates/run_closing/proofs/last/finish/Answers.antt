@@ -9,8 +9,8 @@ returns-then-passed-clause-moves g c = let p = g.T.Law.Rules in moves_nothing p.
 pub returns-then-passed-clause-plays : goal.returns-then-passed-clause-plays
 returns-then-passed-clause-plays g c = record { left = c.in_ok-passed.ensures.gone c.if-passed.true; same = refl }
 
-pub returns-in-Ok-clause-plays : goal.returns-in-Ok-clause-plays
-returns-in-Ok-clause-plays g c = record {
+pub returns-clause-plays : goal.returns-clause-plays
+returns-clause-plays g c = record {
   stays = c.in_ok-passed.ensures.called c.if-passed.false;
-  plays = on_ok _ c.in-Ok.is c.play_out.ensures.plays;
+  plays = on_ok _ c.in_ok-cursor.was c.play_out.ensures.plays;
 }
