@@ -2,7 +2,6 @@
 use Rattle.std.specs.Prelude.{◌≡◌, ℕ, ◌+◌, ◌≤◌, ◌⊎◌, true, false, List, ◌++◌, length, slice_get, Some, max}
 use Rattle.delos_types.specs.Spaces.{SpaceMap}
 use Rattle.delos_types.specs.declared.entry.Entry.{Entry}
-use Rattle.disk_model.specs.Disk.{Rose}
 use Rattle.legal_journal.specs.declared.events.Event.{Event}
 use Rattle.base_engine.specs.declared.play.Played.{Played}
 use Rattle.base_engine.specs.declared.play.Played.TheVariants as played
@@ -10,6 +9,7 @@ use Rattle.legal_journal.specs.Journal.{state_of, tail_of, trim_of}
 use Rattle.virtual_log.specs.Turning.{OnlyOwn}
 use Rattle.virtual_log.specs.Holding.{IsTrimmed}
 use Rattle.base_engine.specs.Reading.{IsFront}
+use Rattle.base_engine.specs.Arming.{repaired}
 use Rattle.replica_api.specs.Replica.{Meaning, Saved, ReplicaView, saved_in, Survives, Advances}
 
 -- the space is what the log's first entries lead to, so many as the cursor says
@@ -52,9 +52,9 @@ pub record IsKnown (known : ℕ) (v : ReplicaView) : Type 0 where
 
 -- one entry was applied; or its position is trimmed; or the disk failed, or had failed before
 abbrev pub Plays : Played → ReplicaView → ReplicaView → List Event → Type 0
-Plays played.Applied old new seen = (new.cursor ≡ old.cursor + 1) × (new.faults ≡ old.faults) × (new.down ≡ false)
+Plays played.Applied old new seen = (new.cursor ≡ old.cursor + 1) × (new.faults ≡ old.faults) × (new.down ≡ false) × (old.down ≡ false)
 Plays played.Trimmed old new seen = (new ≡ old) × IsTrimmed seen old.cursor
-Plays played.Broken old new seen = (new.cursor ≡ old.cursor) × (old.faults ≤ new.faults) × ((old.down ≡ true) ⊎ Rose old.faults new.faults)
+Plays played.Broken old new seen = (new.cursor ≡ old.cursor) × (old.faults ≤ new.faults) × (new.faults ≡ repaired old)
 
 -- The cursor is the greater of what it was and `to`, or stands below the trim.
 abbrev pub Reaches : ℕ → ReplicaView → ReplicaView → List Event → Type 0

@@ -10,7 +10,7 @@ ghost use Rattle.virtual_log.specs.Truncating.{IsPrefixTrimmed};
 ghost use Rattle.virtual_log.specs.Turning.{Later, IsAbove};
 ghost use Rattle.virtual_log.specs.Sealing.{SealsLast};
 ghost use Rattle.base_engine.specs.Causes.{Blames};
-ghost use Rattle.base_engine.specs.Arming.{StoreTwice, FailsToOpen};
+ghost use Rattle.base_engine.specs.Arming.{FailsOnce, RecoversOnce, StoreTwice, FailsToOpen};
 ghost use Rattle.base_engine.specs.Following.{Follows, IsFound, Reaches, IsAt, GoesOn, EndsBy};
 ghost use Rattle.replica_api.specs.Replica.{SpellsOne, Survives, Flushes, Queues, Recovered, ArmedAsBefore, armed_by, saved_in};
 ghost use Rattle.base_engine.specs.Settling.{view_of, Settled, Lands, Answers, Failing, cause_in};
@@ -200,12 +200,14 @@ impl<L: SharedLog, R: Replica> Node<L, R> {
         ensures outbox { self.new.outbox ≡ self.old.outbox }
 
         // Nobody but a stop arms the disk, and a store is opened again with word 0 alone: one that was down, or failed, and is up
-        // now was told 0 last. The store is a cause where its disk failed twice, or failed again.
+        // now was opened by 0 last. The store is a cause where its disk failed twice, or failed again.
         ensures armed { ArmedAsBefore self.old.replica self.new.replica }
-        ensures told { (self.new.replica.told ≡ self.old.replica.told) ⊎ (self.new.replica.told ≡ 0) }
-        ensures opened { self.new.replica.down ≡ false → (self.old.replica.down ≡ true) ⊎ (self.old.replica.faults < self.new.replica.faults) → self.new.replica.told ≡ 0 }
+        ensures word { (self.new.replica.word ≡ self.old.replica.word) ⊎ (self.new.replica.word ≡ 0) }
+        ensures opened { self.new.replica.down ≡ false → (self.old.replica.down ≡ true) ⊎ (self.old.replica.faults < self.new.replica.faults) → self.new.replica.word ≡ 0 }
         ensures down { self.new.replica.down ≡ true → (self.old.replica.down ≡ true) ⊎ Rose self.old.replica.faults self.new.replica.faults }
         ensures twice { IfErr result (λ f. StoreTwice self.old.replica f self.new.replica) }
+        ensures once { OnOk result (FailsOnce self.old.replica self.new.replica) }
+        ensures once_refused { IfErr result (λ f. RecoversOnce self.old.replica f self.new.replica) }
     {
         sync(&mut self.log, &mut self.replica)
     }
@@ -227,12 +229,14 @@ impl<L: SharedLog, R: Replica> Node<L, R> {
         ensures outbox { self.new.outbox ≡ self.old.outbox }
 
         // Nobody but a stop arms the disk, and a store is opened again with word 0 alone: one that was down, or failed, and is up
-        // now was told 0 last. The store is a cause where its disk failed twice, or failed again.
+        // now was opened by 0 last. The store is a cause where its disk failed twice, or failed again.
         ensures armed { ArmedAsBefore self.old.replica self.new.replica }
-        ensures told { (self.new.replica.told ≡ self.old.replica.told) ⊎ (self.new.replica.told ≡ 0) }
-        ensures opened { self.new.replica.down ≡ false → (self.old.replica.down ≡ true) ⊎ (self.old.replica.faults < self.new.replica.faults) → self.new.replica.told ≡ 0 }
+        ensures word { (self.new.replica.word ≡ self.old.replica.word) ⊎ (self.new.replica.word ≡ 0) }
+        ensures opened { self.new.replica.down ≡ false → (self.old.replica.down ≡ true) ⊎ (self.old.replica.faults < self.new.replica.faults) → self.new.replica.word ≡ 0 }
         ensures down { self.new.replica.down ≡ true → (self.old.replica.down ≡ true) ⊎ Rose self.old.replica.faults self.new.replica.faults }
         ensures twice { IfErr result (λ f. StoreTwice self.old.replica f self.new.replica) }
+        ensures once { OnOk result (FailsOnce self.old.replica self.new.replica) }
+        ensures once_refused { IfErr result (λ f. RecoversOnce self.old.replica f self.new.replica) }
     {
         play(&mut self.log, &mut self.replica, to)
     }
@@ -253,12 +257,14 @@ impl<L: SharedLog, R: Replica> Node<L, R> {
         ensures any_crash { AnyCrash self.old.replica.disk self.new.replica.disk (SpellsOne R.meaning.spells (IsFound L.holds R.meaning.state self.new.seen self.old.replica.cursor)) }
 
         // Nobody but a stop arms the disk, and a store is opened again with word 0 alone: one that was down, or failed, and is up
-        // now was told 0 last. The store is a cause where its disk failed twice, or failed again.
+        // now was opened by 0 last. The store is a cause where its disk failed twice, or failed again.
         ensures armed { ArmedAsBefore self.old.replica self.new.replica }
-        ensures told { (self.new.replica.told ≡ self.old.replica.told) ⊎ (self.new.replica.told ≡ 0) }
-        ensures opened { self.new.replica.down ≡ false → (self.old.replica.down ≡ true) ⊎ (self.old.replica.faults < self.new.replica.faults) → self.new.replica.told ≡ 0 }
+        ensures word { (self.new.replica.word ≡ self.old.replica.word) ⊎ (self.new.replica.word ≡ 0) }
+        ensures opened { self.new.replica.down ≡ false → (self.old.replica.down ≡ true) ⊎ (self.old.replica.faults < self.new.replica.faults) → self.new.replica.word ≡ 0 }
         ensures down { self.new.replica.down ≡ true → (self.old.replica.down ≡ true) ⊎ Rose self.old.replica.faults self.new.replica.faults }
         ensures twice { IfErr result (λ f. StoreTwice self.old.replica f self.new.replica) }
+        ensures once { OnOk result (FailsOnce self.old.replica self.new.replica) }
+        ensures once_refused { IfErr result (λ f. RecoversOnce self.old.replica f self.new.replica) }
     {
         propose(
             self.alloc,
@@ -330,8 +336,8 @@ impl<L: SharedLog, R: Replica> Node<L, R> {
         ensures recovered { OnOk result (Recovered word self.old.replica self.new.replica) }
         ensures fails { IfErr result (λ f. FailsToOpen word self.old.replica f self.new.replica) }
         ensures armed { ArmedAsBefore self.old.replica self.new.replica }
-        ensures told { (self.new.replica.told ≡ self.old.replica.told) ⊎ (self.new.replica.told ≡ word) }
-        ensures opened { self.new.replica.down ≡ false → (self.old.replica.down ≡ true) ⊎ (self.old.replica.faults < self.new.replica.faults) → self.new.replica.told ≡ word }
+        ensures word { (self.new.replica.word ≡ self.old.replica.word) ⊎ (self.new.replica.word ≡ word) }
+        ensures opened { self.new.replica.down ≡ false → (self.old.replica.down ≡ true) ⊎ (self.old.replica.faults < self.new.replica.faults) → self.new.replica.word ≡ word }
         ensures down { self.new.replica.down ≡ true → (self.old.replica.down ≡ true) ⊎ Rose self.old.replica.faults self.new.replica.faults }
         ensures twice { IfErr result (λ f. StoreTwice self.old.replica f self.new.replica) }
     {
@@ -384,10 +390,10 @@ impl<L: SharedLog, R: Replica> Node<L, R> {
         ensures any_crash { AnyCrash self.old.replica.disk self.new.replica.disk (SpellsOne R.meaning.spells (IsFound L.holds R.meaning.state self.new.seen self.old.replica.cursor)) }
 
         // Nobody but a stop arms the disk, and a store is opened again with word 0 alone: one that was down, or failed, and is up
-        // now was told 0 last. The store is a cause where its disk failed twice, or failed again.
+        // now was opened by 0 last. The store is a cause where its disk failed twice, or failed again.
         ensures armed { ArmedAsBefore self.old.replica self.new.replica }
-        ensures told { (self.new.replica.told ≡ self.old.replica.told) ⊎ (self.new.replica.told ≡ 0) }
-        ensures opened { self.new.replica.down ≡ false → (self.old.replica.down ≡ true) ⊎ (self.old.replica.faults < self.new.replica.faults) → self.new.replica.told ≡ 0 }
+        ensures word { (self.new.replica.word ≡ self.old.replica.word) ⊎ (self.new.replica.word ≡ 0) }
+        ensures opened { self.new.replica.down ≡ false → (self.old.replica.down ≡ true) ⊎ (self.old.replica.faults < self.new.replica.faults) → self.new.replica.word ≡ 0 }
         ensures down { self.new.replica.down ≡ true → (self.old.replica.down ≡ true) ⊎ Rose self.old.replica.faults self.new.replica.faults }
         ensures twice { self.old.outbox.unsettled ≡ None → IfErr result (λ f. StoreTwice self.old.replica f self.new.replica) }
     {

@@ -8,7 +8,7 @@ ghost use Rattle.disk_model.specs.Crash.{AnyCrash};
 ghost use Rattle.replica_api.specs.Replica.{ReplicaView, SpellsOne, MayFind, Survives, Recovered, saved_in};
 ghost use Rattle.base_engine.specs.Following.{Follows, IsKnown, Plays, Reaches, IsAt, IsFound, GoesOn, KeepsTail, EndsBy};
 ghost use Rattle.base_engine.specs.Causes.{Blames};
-ghost use Rattle.base_engine.specs.Arming.{LeavesArming, StoreTwice, StaysShut, FailsToOpen};
+ghost use Rattle.base_engine.specs.Arming.{LeavesArming, FailsOnce, RecoversOnce, StoreTwice, StaysShut, FailsToOpen};
 
 use crate::fault::{Fault, told};
 use crate::shared_log::SharedLog;
@@ -162,6 +162,8 @@ pub fn play<L: SharedLog, R: Replica>(log: &mut L, replica: &mut R, to: u64) -> 
     ensures origin { (R.shows replica.new).origin ≡ (R.shows replica.old).origin }
     ensures arming { LeavesArming 0 (R.shows replica.old) (R.shows replica.new) }
     ensures twice { IfErr result (λ f. StoreTwice (R.shows replica.old) f (R.shows replica.new)) }
+    ensures once { OnOk result (FailsOnce (R.shows replica.old) (R.shows replica.new)) }
+    ensures once_refused { IfErr result (λ f. RecoversOnce (R.shows replica.old) f (R.shows replica.new)) }
     ensures any_crash { AnyCrash (R.shows replica.old).disk (R.shows replica.new).disk (SpellsOne R.meaning.spells (IsFound L.holds R.meaning.state (L.seen log.new) (R.shows replica.old).cursor)) }
 {
     let mut spare = true;
@@ -211,6 +213,8 @@ pub fn sync<L: SharedLog, R: Replica>(log: &mut L, replica: &mut R) -> Result<u6
     ensures origin { (R.shows replica.new).origin ≡ (R.shows replica.old).origin }
     ensures arming { LeavesArming 0 (R.shows replica.old) (R.shows replica.new) }
     ensures twice { IfErr result (λ f. StoreTwice (R.shows replica.old) f (R.shows replica.new)) }
+    ensures once { OnOk result (FailsOnce (R.shows replica.old) (R.shows replica.new)) }
+    ensures once_refused { IfErr result (λ f. RecoversOnce (R.shows replica.old) f (R.shows replica.new)) }
     ensures any_crash { AnyCrash (R.shows replica.old).disk (R.shows replica.new).disk (SpellsOne R.meaning.spells (IsFound L.holds R.meaning.state (L.seen log.new) (R.shows replica.old).cursor)) }
 {
     let tail = match log.check_tail() {

@@ -6,7 +6,7 @@ ghost use Rattle.engine_steps.specs.Layout as layout;
 ghost use Rattle.legal_journal.specs.Journal.{IsLegal};
 ghost use Rattle.virtual_log.specs.Turning.{Later};
 ghost use Rattle.base_engine.specs.Causes.{Blames};
-ghost use Rattle.base_engine.specs.Arming.{LeavesArming, StoreTwice};
+ghost use Rattle.base_engine.specs.Arming.{LeavesArming, FailsOnce, RecoversOnce, StoreTwice};
 ghost use Rattle.base_engine.specs.Following.{Follows, IsKnown, IsFound};
 ghost use Rattle.replica_api.specs.Replica.{SpellsOne, Queues, Flushes};
 ghost use Rattle.base_engine.specs.Settling.{view_of, Settled, MaySend};
@@ -195,6 +195,8 @@ fn catch_up<L: SharedLog, R: Replica>(
     ensures kept { (R.shows replica.new).kept ≡ (R.shows replica.old).kept }
     ensures arming { LeavesArming 0 (R.shows replica.old) (R.shows replica.new) }
     ensures twice { IfErr result (λ f. StoreTwice (R.shows replica.old) f (R.shows replica.new)) }
+    ensures once { OnOk result (FailsOnce (R.shows replica.old) (R.shows replica.new)) }
+    ensures once_refused { IfErr result (λ f. RecoversOnce (R.shows replica.old) f (R.shows replica.new)) }
 {
     carry_all(alloc, log, outbox)?;
     let sessions = only(alloc, session)?;
@@ -244,6 +246,8 @@ fn is_ready<L: SharedLog, R: Replica>(
     ensures kept { (R.shows replica.new).kept ≡ (R.shows replica.old).kept }
     ensures arming { LeavesArming 0 (R.shows replica.old) (R.shows replica.new) }
     ensures twice { IfErr result (λ f. StoreTwice (R.shows replica.old) f (R.shows replica.new)) }
+    ensures once { OnOk result (FailsOnce (R.shows replica.old) (R.shows replica.new)) }
+    ensures once_refused { IfErr result (λ f. RecoversOnce (R.shows replica.old) f (R.shows replica.new)) }
 {
     let Some(word) = session_word(item) else {
         return Ok(true);
@@ -305,6 +309,8 @@ pub fn propose<L: SharedLog, R: Replica>(
     ensures same { OnErr result ((R.shows replica.new).kept ≡ (R.shows replica.old).kept) }
     ensures arming { LeavesArming 0 (R.shows replica.old) (R.shows replica.new) }
     ensures twice { IfErr result (λ f. StoreTwice (R.shows replica.old) f (R.shows replica.new)) }
+    ensures once { OnOk result (FailsOnce (R.shows replica.old) (R.shows replica.new)) }
+    ensures once_refused { IfErr result (λ f. RecoversOnce (R.shows replica.old) f (R.shows replica.new)) }
 {
     let ready = match is_ready(alloc, log, replica, outbox, &item) {
         Ok(ready) => ready,

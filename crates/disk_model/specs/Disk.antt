@@ -1,5 +1,5 @@
 -- What a disk holds, at one moment and from moment to moment.
-use Rattle.std.specs.Prelude.{◌≡◌, ◌⊎◌, ℕ, ◌+◌, ◌-◌, ◌^◌, ◌<◌, List, [], ◌∷◌, ◌++◌, length, take, drop, replicate, Bool, false}
+use Rattle.std.specs.Prelude.{◌≡◌, ◌⊎◌, ℕ, ◌+◌, ◌-◌, ◌^◌, ◌<◌, min, List, [], ◌∷◌, ◌++◌, length, take, drop, replicate, Bool, false}
 
 -- what was asked of a disk: to hold these bytes from an offset on, or to end at a length
 pub data Change : Type 0 where
@@ -51,12 +51,14 @@ abbrev pub OneStep : Timeline → Moment → Timeline → Type 0
 OneStep old m new = (new ≡ old) ⊎ (new ≡ followed old m)
 
 -- A disk as contracts see it: its moments, how often it has failed, whether it was stopped inside a change and not
--- reopened since, and which of the next changes will stop inside itself, counted from 1 (0 for none).
+-- reopened since, which of the next changes will stop inside itself, counted from 1 (0 for none), and the word by which
+-- it was reopened last (0 before any).
 pub record DiskView : Type 0 where
   pub timeline : Timeline
   pub faults : ℕ
   pub stopped : Bool
   pub armed : ℕ
+  pub word : ℕ
 
 -- what a read gives
 abbrev pub reads : DiskView → List ℕ
@@ -66,10 +68,14 @@ reads v = content v.timeline.now
 abbrev pub IsSynced : DiskView → Type 0
 IsSynced v = v.timeline.now.changes ≡ []
 
--- a count of faults rose; one that is at its greatest stays there
+-- one more; a count that is at its greatest stays there
+abbrev pub bumped : ℕ → ℕ
+bumped n = min (2 ^ 64 - 1) (n + 1)
+
+-- a count of faults rose over some calls; one that is at its greatest stays there
 abbrev pub Rose : ℕ → ℕ → Type 0
 Rose before now = (before < now) ⊎ (before ≡ 2 ^ 64 - 1)
 
 -- nothing has happened yet
 abbrev pub fresh : DiskView
-fresh = record { timeline = record { past = []; now = at_rest [] }; faults = 0; stopped = false; armed = 0 }
+fresh = record { timeline = record { past = []; now = at_rest [] }; faults = 0; stopped = false; armed = 0; word = 0 }

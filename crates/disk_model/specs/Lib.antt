@@ -1,4 +1,5 @@
 pub mod Disk
+pub mod Armed
 pub mod Crash
 pub mod CrashLaws
 pub mod Torn

@@ -1,6 +1,6 @@
 // A disk in memory some of whose calls fail.
 ghost use Rattle.std.specs.Prelude.{◌≡◌, ◌≢◌, ◌⊎◌, ◌↔◌, ◌+◌, ◌-◌, ◌^◌, ◌<◌, ◌≤◌, ℕ, true, false, [], length, take, drop, min, if◌then◌else◌, IsTrue, IsErr, OnOk, OnErr, IsErrOf};
-ghost use Rattle.disk_model.specs.Disk.{Written, CutTo, with_change, at_rest, OneStep, reads, Rose};
+ghost use Rattle.disk_model.specs.Disk.{Written, CutTo, with_change, at_rest, OneStep, reads, bumped};
 ghost use Rattle.disk_model.specs.Crash.{IsImage};
 ghost use Rattle.disk_model.specs.Memory.{image};
 ghost use Rattle.disk_model.specs.Failing.{shown, next_call, IsListed, refused};
@@ -68,12 +68,14 @@ impl Disk for FailDisk {
         ensures bytes { OnOk result (buf.new ≡ take (length buf.old) (drop at (reads (shown self.old)))) }
         ensures same { (shown self.new).timeline ≡ (shown self.old).timeline }
         ensures state { ((shown self.new).stopped ≡ (shown self.old).stopped) × ((shown self.new).armed ≡ (shown self.old).armed) }
+        ensures word { (shown self.new).word ≡ (shown self.old).word }
         ensures faults { (shown self.old).faults ≤ (shown self.new).faults }
-        ensures failed { OnErr result (Rose (shown self.old).faults (shown self.new).faults) }
+        ensures failed { OnErr result ((shown self.new).faults ≡ bumped (shown self.old).faults) }
         ensures no_fault { OnOk result ((shown self.new).faults ≡ (shown self.old).faults) }
         ensures stopped { (shown self.old).stopped ≡ true → IsErr result }
 
-        // It fails just where it must.
+        // It counts the call, and fails just where it must.
+        ensures numbered { ¬ (IsListed self.old) → self.new ≡ record self.old { disk = self.new.disk; calls = next_call self.old } }
         ensures listed { IsListed self.old → IsErr result × (self.new ≡ refused self.old) }
         ensures causes { OnErr result (IsListed self.old ⊎ (self.old.disk.stopped ≡ true)) }
     {
@@ -87,16 +89,18 @@ impl Disk for FailDisk {
         ensures time { OneStep (shown self.old).timeline (with_change (shown self.old).timeline.now (Written at bytes.now)) (shown self.new).timeline }
         ensures ok { OnOk result (((shown self.new).timeline.now ≡ with_change (shown self.old).timeline.now (Written at bytes.now)) × ((shown self.new).stopped ≡ false)) }
         ensures fits { OnOk result (at + length bytes.now ≤ 2 ^ 48) }
-        ensures failed { IsErrOf result WriteFault.Failed → (((shown self.new).timeline ≡ (shown self.old).timeline) ⊎ ((shown self.new).stopped ≡ true)) × Rose (shown self.old).faults (shown self.new).faults }
+        ensures failed { IsErrOf result WriteFault.Failed → (((shown self.new).timeline ≡ (shown self.old).timeline) ⊎ ((shown self.new).stopped ≡ true)) × ((shown self.new).faults ≡ bumped (shown self.old).faults) }
         ensures no_fault { OnOk result ((shown self.new).faults ≡ (shown self.old).faults) }
         ensures memory { IsErrOf result WriteFault.Memory → shown self.new ≡ shown self.old }
         ensures faults { (shown self.old).faults ≤ (shown self.new).faults }
         ensures stopped { (shown self.old).stopped ≡ true → IsErrOf result WriteFault.Failed × ((shown self.new).timeline ≡ (shown self.old).timeline) × ((shown self.new).stopped ≡ true) }
         ensures counted { OnOk result (((shown self.old).armed ≢ 1) × ((shown self.new).armed ≡ (shown self.old).armed - 1)) }
         ensures armed { ((shown self.new).armed ≡ (shown self.old).armed) ⊎ ((shown self.new).armed ≡ (shown self.old).armed - 1) }
+        ensures word { (shown self.new).word ≡ (shown self.old).word }
         ensures stops { (shown self.new).stopped ≡ true → ((shown self.old).stopped ≡ true) ⊎ ((shown self.old).armed ≡ 1) }
 
-        // It fails just where it must.
+        // It counts the call, and fails just where it must.
+        ensures numbered { ¬ (IsListed self.old) → self.new ≡ record self.old { disk = self.new.disk; calls = next_call self.old } }
         ensures listed { IsListed self.old → IsErrOf result WriteFault.Failed × (self.new ≡ refused self.old) }
         ensures causes { IsErrOf result WriteFault.Failed → IsListed self.old ⊎ ((self.old.disk.stopped ≡ true) ⊎ ((self.old.disk.armed ≡ 1) ⊎ (2 ^ 48 < at + length bytes.now))) }
     {
@@ -109,16 +113,18 @@ impl Disk for FailDisk {
     fn cut(&mut self, len: u64) -> Result<(), WriteFault>
         ensures time { OneStep (shown self.old).timeline (with_change (shown self.old).timeline.now (CutTo len)) (shown self.new).timeline }
         ensures ok { OnOk result (((shown self.new).timeline.now ≡ with_change (shown self.old).timeline.now (CutTo len)) × ((shown self.new).stopped ≡ false)) }
-        ensures failed { IsErrOf result WriteFault.Failed → (((shown self.new).timeline ≡ (shown self.old).timeline) ⊎ ((shown self.new).stopped ≡ true)) × Rose (shown self.old).faults (shown self.new).faults }
+        ensures failed { IsErrOf result WriteFault.Failed → (((shown self.new).timeline ≡ (shown self.old).timeline) ⊎ ((shown self.new).stopped ≡ true)) × ((shown self.new).faults ≡ bumped (shown self.old).faults) }
         ensures no_fault { OnOk result ((shown self.new).faults ≡ (shown self.old).faults) }
         ensures memory { IsErrOf result WriteFault.Memory → shown self.new ≡ shown self.old }
         ensures faults { (shown self.old).faults ≤ (shown self.new).faults }
         ensures stopped { (shown self.old).stopped ≡ true → IsErrOf result WriteFault.Failed × ((shown self.new).timeline ≡ (shown self.old).timeline) × ((shown self.new).stopped ≡ true) }
         ensures counted { OnOk result (((shown self.old).armed ≢ 1) × ((shown self.new).armed ≡ (shown self.old).armed - 1)) }
         ensures armed { ((shown self.new).armed ≡ (shown self.old).armed) ⊎ ((shown self.new).armed ≡ (shown self.old).armed - 1) }
+        ensures word { (shown self.new).word ≡ (shown self.old).word }
         ensures stops { (shown self.new).stopped ≡ true → ((shown self.old).stopped ≡ true) ⊎ ((shown self.old).armed ≡ 1) }
 
-        // It fails just where it must.
+        // It counts the call, and fails just where it must.
+        ensures numbered { ¬ (IsListed self.old) → self.new ≡ record self.old { disk = self.new.disk; calls = next_call self.old } }
         ensures listed { IsListed self.old → IsErrOf result WriteFault.Failed × (self.new ≡ refused self.old) }
         ensures causes { IsErrOf result WriteFault.Failed → IsListed self.old ⊎ ((self.old.disk.stopped ≡ true) ⊎ (self.old.disk.armed ≡ 1)) }
     {
@@ -131,13 +137,15 @@ impl Disk for FailDisk {
     fn sync(&mut self) -> Result<(), Failed>
         ensures time { OneStep (shown self.old).timeline (at_rest (reads (shown self.old))) (shown self.new).timeline }
         ensures ok { OnOk result ((shown self.new).timeline.now ≡ at_rest (reads (shown self.old))) }
-        ensures failed { OnErr result (((shown self.new).timeline ≡ (shown self.old).timeline) × Rose (shown self.old).faults (shown self.new).faults) }
+        ensures failed { OnErr result (((shown self.new).timeline ≡ (shown self.old).timeline) × ((shown self.new).faults ≡ bumped (shown self.old).faults)) }
         ensures no_fault { OnOk result ((shown self.new).faults ≡ (shown self.old).faults) }
         ensures state { ((shown self.new).stopped ≡ (shown self.old).stopped) × ((shown self.new).armed ≡ (shown self.old).armed) }
+        ensures word { (shown self.new).word ≡ (shown self.old).word }
         ensures faults { (shown self.old).faults ≤ (shown self.new).faults }
         ensures stopped { (shown self.old).stopped ≡ true → IsErr result }
 
-        // It fails just where it must.
+        // It counts the call, and fails just where it must.
+        ensures numbered { ¬ (IsListed self.old) → self.new ≡ record self.old { disk = self.new.disk; calls = next_call self.old } }
         ensures listed { IsListed self.old → IsErr result × (self.new ≡ refused self.old) }
         ensures causes { OnErr result (IsListed self.old ⊎ (self.old.disk.stopped ≡ true)) }
     {
@@ -154,11 +162,14 @@ impl Disk for FailDisk {
     fn reopen(&mut self, word: u64) -> Result<(), Failed>
         ensures time { OneStep (shown self.old).timeline (at_rest (reads (shown self.new))) (shown self.new).timeline }
         ensures ok { OnOk result (((shown self.new).timeline.now ≡ at_rest (reads (shown self.new))) × IsImage (shown self.old).timeline.now (reads (shown self.new)) × ((shown self.new).stopped ≡ false) × ((shown self.new).armed ≡ 0)) }
-        ensures failed { OnErr result (((shown self.new).timeline ≡ (shown self.old).timeline) × ((shown self.new).stopped ≡ (shown self.old).stopped) × ((shown self.new).armed ≡ (shown self.old).armed) × Rose (shown self.old).faults (shown self.new).faults) }
+        ensures failed { OnErr result (((shown self.new).timeline ≡ (shown self.old).timeline) × ((shown self.new).stopped ≡ (shown self.old).stopped) × ((shown self.new).armed ≡ (shown self.old).armed) × ((shown self.new).faults ≡ bumped (shown self.old).faults)) }
+        ensures word { OnOk result ((shown self.new).word ≡ word) }
+        ensures same_word { OnErr result ((shown self.new).word ≡ (shown self.old).word) }
         ensures no_fault { OnOk result ((shown self.new).faults ≡ (shown self.old).faults) }
         ensures faults { (shown self.old).faults ≤ (shown self.new).faults }
 
-        // It fails just where it must.
+        // It counts the call, and fails just where it must.
+        ensures numbered { ¬ (IsListed self.old) → self.new ≡ record self.old { disk = self.new.disk; calls = next_call self.old } }
         ensures listed { IsListed self.old → IsErr result × (self.new ≡ refused self.old) }
         ensures causes { OnErr result (IsListed self.old) }
         ensures picked { OnOk result (reads self.new.disk ≡ image word self.old.disk.timeline.now) }

@@ -1,6 +1,6 @@
 // A disk in memory. It keeps a record of all that was done to it.
 ghost use Rattle.std.specs.Prelude.{◌≡◌, ◌≢◌, ◌⊎◌, ◌+◌, ◌-◌, ◌^◌, ◌<◌, ◌≤◌, ℕ, true, false, [], length, take, drop, min, OnOk, OnErr, IsOk, IsErr, IsErrOf};
-ghost use Rattle.disk_model.specs.Disk.{Written, CutTo, content, with_change, at_rest, followed, OneStep, reads, Rose, fresh};
+ghost use Rattle.disk_model.specs.Disk.{Written, CutTo, content, with_change, at_rest, followed, OneStep, reads, bumped, fresh};
 ghost use Rattle.disk_model.specs.Crash.{IsImage};
 ghost use Rattle.disk_model.specs.Memory.{image};
 
@@ -42,6 +42,8 @@ pub struct MemDisk {
     armed: u64,
     stopped: bool,
     faults: u64,
+    // By which it was reopened last.
+    word: u64,
     alloc: Global,
 }
 
@@ -52,7 +54,7 @@ impl Model for MemDisk {
 
     ghost Value = { DiskView };
 
-    ghost view = { λ d. record { timeline = timeline_of d.events.items; faults = d.faults; stopped = d.stopped; armed = d.armed } };
+    ghost view = { λ d. record { timeline = timeline_of d.events.items; faults = d.faults; stopped = d.stopped; armed = d.armed; word = d.word } };
 
     ghost invariant = { Keeps };
 }
@@ -70,13 +72,14 @@ impl MemDisk {
             armed: 0,
             stopped: false,
             faults: 0,
+            word: 0,
             alloc,
         }
     }
 
     // Counts a fault.
     fn count_fault(&mut self)
-        ensures { self.new ≡ record self.old { faults = min (2 ^ 64 - 1) (self.old.faults + 1) } }
+        ensures { self.new ≡ record self.old { faults = bumped self.old.faults } }
     {
         self.faults = self.faults.saturating_add(1);
     }
@@ -86,7 +89,7 @@ impl MemDisk {
         ensures same { self.new.timeline ≡ self.old.timeline }
         ensures running { OnOk result (self.new.stopped ≡ self.old.stopped) }
         ensures ok { OnOk result ((self.old.armed ≢ 1) × (self.new ≡ record self.old { armed = self.old.armed - 1 })) }
-        ensures stops { IsErrOf result WriteFault.Failed → (self.old.armed ≡ 1) × (self.new ≡ record self.old { armed = 0; stopped = true; faults = min (2 ^ 64 - 1) (self.old.faults + 1) }) }
+        ensures stops { IsErrOf result WriteFault.Failed → (self.old.armed ≡ 1) × (self.new ≡ record self.old { armed = 0; stopped = true; faults = bumped self.old.faults }) }
         ensures memory { IsErrOf result WriteFault.Memory → ⊥ }
     {
         if self.armed == 1 {
@@ -113,13 +116,13 @@ impl Disk for MemDisk {
         ensures bytes { OnOk result (buf.new ≡ take (length buf.old) (drop at (reads self.old))) }
         ensures same { self.new.timeline ≡ self.old.timeline }
         ensures state { (self.new.stopped ≡ self.old.stopped) × (self.new.armed ≡ self.old.armed) }
+        ensures word { self.new.word ≡ self.old.word }
         ensures faults { self.old.faults ≤ self.new.faults }
-        ensures failed { OnErr result (Rose self.old.faults self.new.faults) }
+        ensures failed { OnErr result (self.new.faults ≡ bumped self.old.faults) }
         ensures stopped { self.old.stopped ≡ true → IsErr result }
 
         // It fails just where it must.
         ensures causes { OnErr result (self.old.stopped ≡ true) }
-        ensures one_fault { OnErr result (self.new.faults ≡ min (2 ^ 64 - 1) (self.old.faults + 1)) }
         ensures no_fault { OnOk result (self.new.faults ≡ self.old.faults) }
     {
         if self.stopped {
@@ -135,19 +138,19 @@ impl Disk for MemDisk {
         ensures time { OneStep self.old.timeline (with_change self.old.timeline.now (Written at bytes.now)) self.new.timeline }
         ensures ok { OnOk result ((self.new.timeline.now ≡ with_change self.old.timeline.now (Written at bytes.now)) × (self.new.stopped ≡ false)) }
         ensures fits { OnOk result (at + length bytes.now ≤ 2 ^ 48) }
-        ensures failed { IsErrOf result WriteFault.Failed → ((self.new.timeline ≡ self.old.timeline) ⊎ (self.new.stopped ≡ true)) × Rose self.old.faults self.new.faults }
+        ensures failed { IsErrOf result WriteFault.Failed → ((self.new.timeline ≡ self.old.timeline) ⊎ (self.new.stopped ≡ true)) × (self.new.faults ≡ bumped self.old.faults) }
         ensures memory { IsErrOf result WriteFault.Memory → self.new ≡ self.old }
         ensures faults { self.old.faults ≤ self.new.faults }
         ensures stopped { self.old.stopped ≡ true → IsErrOf result WriteFault.Failed × (self.new.timeline ≡ self.old.timeline) × (self.new.stopped ≡ true) }
         ensures counted { OnOk result ((self.old.armed ≢ 1) × (self.new.armed ≡ self.old.armed - 1)) }
         ensures armed { (self.new.armed ≡ self.old.armed) ⊎ (self.new.armed ≡ self.old.armed - 1) }
+        ensures word { self.new.word ≡ self.old.word }
         ensures stops { self.new.stopped ≡ true → (self.old.stopped ≡ true) ⊎ (self.old.armed ≡ 1) }
 
         // It fails just where it must, and the armed change stops it, and is pending.
         ensures causes { IsErrOf result WriteFault.Failed → (self.old.stopped ≡ true) ⊎ ((self.old.armed ≡ 1) ⊎ (2 ^ 48 < at + length bytes.now)) }
         ensures made { self.old.stopped ≡ false → at + length bytes.now ≤ 2 ^ 48 → IsErrOf result WriteFault.Memory ⊎ (self.new.timeline ≡ followed self.old.timeline (with_change self.old.timeline.now (Written at bytes.now))) }
         ensures stops_inside { self.old.stopped ≡ false → self.old.armed ≡ 1 → IsErrOf result WriteFault.Memory ⊎ (self.new.stopped ≡ true) }
-        ensures one_fault { IsErrOf result WriteFault.Failed → self.new.faults ≡ min (2 ^ 64 - 1) (self.old.faults + 1) }
         ensures no_fault { OnOk result (self.new.faults ≡ self.old.faults) }
     {
         if self.stopped {
@@ -173,19 +176,19 @@ impl Disk for MemDisk {
     fn cut(&mut self, len: u64) -> Result<(), WriteFault>
         ensures time { OneStep self.old.timeline (with_change self.old.timeline.now (CutTo len)) self.new.timeline }
         ensures ok { OnOk result ((self.new.timeline.now ≡ with_change self.old.timeline.now (CutTo len)) × (self.new.stopped ≡ false)) }
-        ensures failed { IsErrOf result WriteFault.Failed → ((self.new.timeline ≡ self.old.timeline) ⊎ (self.new.stopped ≡ true)) × Rose self.old.faults self.new.faults }
+        ensures failed { IsErrOf result WriteFault.Failed → ((self.new.timeline ≡ self.old.timeline) ⊎ (self.new.stopped ≡ true)) × (self.new.faults ≡ bumped self.old.faults) }
         ensures memory { IsErrOf result WriteFault.Memory → self.new ≡ self.old }
         ensures faults { self.old.faults ≤ self.new.faults }
         ensures stopped { self.old.stopped ≡ true → IsErrOf result WriteFault.Failed × (self.new.timeline ≡ self.old.timeline) × (self.new.stopped ≡ true) }
         ensures counted { OnOk result ((self.old.armed ≢ 1) × (self.new.armed ≡ self.old.armed - 1)) }
         ensures armed { (self.new.armed ≡ self.old.armed) ⊎ (self.new.armed ≡ self.old.armed - 1) }
+        ensures word { self.new.word ≡ self.old.word }
         ensures stops { self.new.stopped ≡ true → (self.old.stopped ≡ true) ⊎ (self.old.armed ≡ 1) }
 
         // It fails just where it must, and the armed change stops it, and is pending.
         ensures causes { IsErrOf result WriteFault.Failed → (self.old.stopped ≡ true) ⊎ (self.old.armed ≡ 1) }
         ensures made { self.old.stopped ≡ false → IsErrOf result WriteFault.Memory ⊎ (self.new.timeline ≡ followed self.old.timeline (with_change self.old.timeline.now (CutTo len))) }
         ensures stops_inside { self.old.stopped ≡ false → self.old.armed ≡ 1 → IsErrOf result WriteFault.Memory ⊎ (self.new.stopped ≡ true) }
-        ensures one_fault { IsErrOf result WriteFault.Failed → self.new.faults ≡ min (2 ^ 64 - 1) (self.old.faults + 1) }
         ensures no_fault { OnOk result (self.new.faults ≡ self.old.faults) }
     {
         if self.stopped {
@@ -201,14 +204,14 @@ impl Disk for MemDisk {
     fn sync(&mut self) -> Result<(), Failed>
         ensures time { OneStep self.old.timeline (at_rest (reads self.old)) self.new.timeline }
         ensures ok { OnOk result (self.new.timeline.now ≡ at_rest (reads self.old)) }
-        ensures failed { OnErr result ((self.new.timeline ≡ self.old.timeline) × Rose self.old.faults self.new.faults) }
+        ensures failed { OnErr result ((self.new.timeline ≡ self.old.timeline) × (self.new.faults ≡ bumped self.old.faults)) }
         ensures state { (self.new.stopped ≡ self.old.stopped) × (self.new.armed ≡ self.old.armed) }
+        ensures word { self.new.word ≡ self.old.word }
         ensures faults { self.old.faults ≤ self.new.faults }
         ensures stopped { self.old.stopped ≡ true → IsErr result }
 
         // It fails just where it must.
         ensures causes { OnErr result (self.old.stopped ≡ true) }
-        ensures one_fault { OnErr result (self.new.faults ≡ min (2 ^ 64 - 1) (self.old.faults + 1)) }
         ensures no_fault { OnOk result (self.new.faults ≡ self.old.faults) }
     {
         if self.stopped {
@@ -234,16 +237,19 @@ impl Disk for MemDisk {
     fn reopen(&mut self, word: u64) -> Result<(), Failed>
         ensures time { OneStep self.old.timeline (at_rest (reads self.new)) self.new.timeline }
         ensures ok { OnOk result ((self.new.timeline.now ≡ at_rest (reads self.new)) × IsImage self.old.timeline.now (reads self.new) × (self.new.stopped ≡ false) × (self.new.armed ≡ 0)) }
-        ensures failed { OnErr result ((self.new.timeline ≡ self.old.timeline) × (self.new.stopped ≡ self.old.stopped) × (self.new.armed ≡ self.old.armed) × Rose self.old.faults self.new.faults) }
+        ensures failed { OnErr result ((self.new.timeline ≡ self.old.timeline) × (self.new.stopped ≡ self.old.stopped) × (self.new.armed ≡ self.old.armed) × (self.new.faults ≡ bumped self.old.faults)) }
         ensures faults { self.old.faults ≤ self.new.faults }
 
         // It never fails, and the word picks the image.
         ensures succeeds { IsOk result }
         ensures picked { reads self.new ≡ image word self.old.timeline.now }
+        ensures word { OnOk result (self.new.word ≡ word) }
+        ensures same_word { OnErr result (self.new.word ≡ self.old.word) }
         ensures no_fault { OnOk result (self.new.faults ≡ self.old.faults) }
     {
         self.stopped = false;
         self.armed = 0;
+        self.word = word;
         let end = self.events.len();
         if self.pending == end {
             return Ok(());

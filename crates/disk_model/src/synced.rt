@@ -1,6 +1,6 @@
 // A write and a sync, one after the other.
 ghost use Rattle.std.specs.Prelude.{◌≡◌, ◌≢◌, ◌⊎◌, ◌+◌, ◌-◌, ◌^◌, ◌<◌, ◌≤◌, ℕ, false, [], length, OnOk, OnErr, IsErrOf};
-ghost use Rattle.disk_model.specs.Disk.{Written, changed, at_rest, reads, IsSynced, Rose};
+ghost use Rattle.disk_model.specs.Disk.{Written, changed, at_rest, reads, IsSynced, bumped};
 ghost use Rattle.disk_model.specs.Crash.{AnyCrash};
 ghost use Rattle.disk_model.specs.Torn.{IsTorn};
 
@@ -17,9 +17,10 @@ pub fn write_synced<D: Disk>(disk: &mut D, at: u64, bytes: &[u8]) -> Result<(), 
     ensures fits { OnOk result (at + length bytes.now ≤ 2 ^ 48) }
     ensures any_crash { AnyCrash (D.view disk.old).timeline (D.view disk.new).timeline (IsTorn (reads (D.view disk.old)) at (length bytes.now)) }
     ensures memory { IsErrOf result WriteFault.Memory → D.view disk.new ≡ D.view disk.old }
-    ensures failed { IsErrOf result WriteFault.Failed → Rose (D.view disk.old).faults (D.view disk.new).faults }
+    ensures failed { IsErrOf result WriteFault.Failed → (D.view disk.new).faults ≡ bumped (D.view disk.old).faults }
     ensures faults { (D.view disk.old).faults ≤ (D.view disk.new).faults }
     ensures no_fault { OnOk result ((D.view disk.new).faults ≡ (D.view disk.old).faults) }
+    ensures word { (D.view disk.new).word ≡ (D.view disk.old).word }
     ensures armed { (D.view disk.new).armed ≤ (D.view disk.old).armed }
 
     // It is one write of the count that the disk is armed with.

@@ -13,6 +13,7 @@ use Rattle.legal_journal.specs.Journal.{fresh_cell}
 use Rattle.register_api.specs.View.{RegisterView}
 use Rattle.register_api.specs.View as register_view
 use Rattle.fabric_core.specs.Fabric.{FabricOk, IsAsTold, MatchesOperation}
+use Rattle.fabric_core.proofs.Ran.{no_drift}
 
 at_all : {A : Type 0} (P : LogletView → Type 0) (view : A → LogletView) (xs : List A) (i : ℕ) (v : LogletView) → All (λ x. P (view x)) xs → slice_get (map view xs) i ≡ Some v → P v
 at_all P view [] i v h e = absurd (cc)
@@ -64,5 +65,5 @@ opened law view serving items cells marks register least most shelf_is kinds_are
         current = inl (r.version, r.chain);
         torn = λ c e. let none = r.asked in absurd (cc);
       };
-      register_ran = record { opening = register; fresh = r; run = refl };
+      register_ran = record { opening = register; fresh = r; run = no_drift register };
     }

@@ -1,5 +1,6 @@
 -- A fabric goes on after an event of its register.
 use Rattle.std.proofs.Common.{◌≡◌, inl, inr, ℕ, ◌+◌, ◌<◌, ◌^◌, List, [], ◌∷◌, ◌++◌, length, Bool, true, false, refl, sym, ap, ◌∙◌, subst, ⊎_elim, arith}
+use Rattle.std.specs.Prelude.{MatchBool}
 use Rattle.std.proofs.lemmas.List.{length-append}
 use Rattle.loglet_api.specs.declared.call.Kind.{Kind}
 use Rattle.delos_types.specs.declared.chain.Chain.{Chain}
@@ -16,12 +17,12 @@ use Rattle.legal_journal.specs.Journal.{CellState, State, state_of, after, MayHa
 use Rattle.legal_journal.specs.Turns.{MayCall, OwnEvents}
 use Rattle.legal_journal.proofs.Sound.{StateOk}
 use Rattle.legal_journal.proofs.Legal.{sound}
-use Rattle.fabric_core.specs.Runs.{RegisterDoes, is_on, is_on_register}
+use Rattle.fabric_core.specs.Runs.{RegisterDoes, RegisterLacks, ServersLack, is_on, is_on_register}
 use Rattle.fabric_core.specs.RegisterEvent.{RegisterActs, RegisterApplies}
-use Rattle.fabric_core.specs.Fabric.{FabricView, FabricOk, IsAsTold, AreMarked, IsRegisterAsTold, Keeps}
-use Rattle.fabric_core.proofs.Ran.{register_more}
+use Rattle.fabric_core.specs.Fabric.{FabricView, FabricOk, IsAsTold, AreMarked, IsRegisterAsTold, Lacks, Keeps}
+use Rattle.fabric_core.proofs.Ran.{lacks_drift, register_drifts, register_more}
 use Rattle.fabric_core.proofs.Acts.{register_acts}
-use Rattle.fabric_core.proofs.Registers.{counted, current_is, given_told, written_told, failed_told, armed_told, mended_told, missed_told, may_stand, expected, small_version}
+use Rattle.fabric_core.proofs.Registers.{counted, current_is, given_told, written_told, failed_told, armed_told, drifted_told, mended_told, missed_told, may_stand, expected, small_version}
 use Rattle.fabric_core.proofs.Kept.{legal_more, state_more, has_run_same}
 use Rattle.fabric_core.proofs.Shelf.{adds_none}
 
@@ -68,16 +69,31 @@ module _ (law : Law) {kinds : List Kind} (f : FabricView) (marks : List (List Bo
       }
 
   -- no event
-  unheard : (who : ℕ) (call : FabricCall) (answer : FabricAnswer) (r : RegisterView) (journal : List Event) → answer ≡ Memory → r ≡ f.register → journal ≡ f.journal → Goes who call answer r journal
-  unheard who call answer r journal memory same is =
-      let unchanged : ◌≡◌ {A = FabricView} (record { cells = f.cells; serving = f.serving; register = r; journal = journal }) f = ap (λ x. record { cells = f.cells; serving = f.serving; register = x; journal = journal }) same ∙ ap (λ x. record { cells = f.cells; serving = f.serving; register = f.register; journal = x }) is in
-      let all = subst (λ (x : FabricView). FabricOk law kinds x marks) (sym unchanged) ok in record {
+  unheard : (who : ℕ) (call : FabricCall) (answer : FabricAnswer) (r : RegisterView) (journal : List Event) → ((j : ℕ) → is_on j call ≡ false) → answer ≡ Memory → RegisterLacks f.register call r → journal ≡ f.journal → Goes who call answer r journal
+  unheard who call answer r journal off memory lacks is =
+      let drift = lacks_drift call f.register r lacks in
+      let still : FabricOk law kinds (record { cells = f.cells; serving = f.serving; register = r; journal = f.journal }) marks = record {
+        legal = ok.legal;
+        shelf_is = ok.shelf_is;
+        kinds_are = ok.kinds_are;
+        cells = ok.cells;
+        register = drifted_told (state_of f.journal).register f.register ok.register r drift;
+        register_ran = register_drifts f.register r f.journal ok.register_ran drift;
+      } in
+      let all = subst (λ j. FabricOk law kinds (record { cells = f.cells; serving = f.serving; register = r; journal = j }) marks) (sym is) still in
+      let left : Lacks f call (record { cells = f.cells; serving = f.serving; register = r; journal = journal }) = record {
+        cells = refl;
+        serving = refl;
+        each = λ i u h. (u, h, subst (λ b. MatchBool b (ServersLack u call u) (u ≡ u)) (sym (off i)) refl);
+        register = lacks;
+        journal = is;
+      } in record {
         now = all;
         keeps = record {
           adds = adds_none who call f.journal journal answer memory is;
           legal = all.legal;
-          same = λ _. unchanged;
-          acts = inl unchanged;
+          same = λ _. left;
+          acts = inl left;
         };
       }
 
@@ -98,7 +114,7 @@ module _ (law : Law) {kinds : List Kind} (f : FabricView) (marks : List (List Bo
   pub read_goes : (who : ℕ) (answer : FabricAnswer) (r : RegisterView) (journal : List Event) → RegisterApplies f.register f.journal who ReadChain answer r journal → Goes who ReadChain answer r journal
   read_goes who answer r journal h = ⊎_elim
       (λ (x : RegisterActs f.register f.journal who ReadChain answer r journal). read_acts who answer r journal x)
-      (λ (x : (answer ≡ Memory) × (r ≡ f.register) × (journal ≡ f.journal)). unheard who ReadChain answer r journal x.0 x.1 x.2)
+      (λ (x : (answer ≡ Memory) × RegisterLacks f.register ReadChain r × (journal ≡ f.journal)). unheard who ReadChain answer r journal (λ j. refl) x.0 x.1 x.2)
       h
 
   pub may_write : (who x : ℕ) (c : Chain) → MayCall (state_of f.journal) law who (WriteChain x c) → is_chain c ≡ true
@@ -133,7 +149,7 @@ module _ (law : Law) {kinds : List Kind} (f : FabricView) (marks : List (List Bo
   pub write_goes : (who x : ℕ) (c : Chain) (answer : FabricAnswer) (r : RegisterView) (journal : List Event) → MayCall (state_of f.journal) law who (WriteChain x c) → RegisterApplies f.register f.journal who (WriteChain x c) answer r journal → Goes who (WriteChain x c) answer r journal
   write_goes who x c answer r journal can h = ⊎_elim
       (λ (y : RegisterActs f.register f.journal who (WriteChain x c) answer r journal). write_acts who x c answer r journal can y)
-      (λ (y : (answer ≡ Memory) × (r ≡ f.register) × (journal ≡ f.journal)). unheard who (WriteChain x c) answer r journal y.0 y.1 y.2)
+      (λ (y : (answer ≡ Memory) × RegisterLacks f.register (WriteChain x c) r × (journal ≡ f.journal)). unheard who (WriteChain x c) answer r journal (λ j. refl) y.0 y.1 y.2)
       h
 
   arm_acts : (who n : ℕ) (answer : FabricAnswer) (r : RegisterView) (journal : List Event) → RegisterActs f.register f.journal who (StopMeta n) answer r journal → Goes who (StopMeta n) answer r journal
@@ -145,20 +161,20 @@ module _ (law : Law) {kinds : List Kind} (f : FabricView) (marks : List (List Bo
   pub arm_goes : (who n : ℕ) (answer : FabricAnswer) (r : RegisterView) (journal : List Event) → RegisterApplies f.register f.journal who (StopMeta n) answer r journal → Goes who (StopMeta n) answer r journal
   arm_goes who n answer r journal h = ⊎_elim
       (λ (x : RegisterActs f.register f.journal who (StopMeta n) answer r journal). arm_acts who n answer r journal x)
-      (λ (x : (answer ≡ Memory) × (r ≡ f.register) × (journal ≡ f.journal)). unheard who (StopMeta n) answer r journal x.0 x.1 x.2)
+      (λ (x : (answer ≡ Memory) × RegisterLacks f.register (StopMeta n) r × (journal ≡ f.journal)). unheard who (StopMeta n) answer r journal (λ j. refl) x.0 x.1 x.2)
       h
 
   reopen_acts : (who word : ℕ) (answer : FabricAnswer) (r : RegisterView) (journal : List Event) → RegisterActs f.register f.journal who (MendMeta word) answer r journal → Goes who (MendMeta word) answer r journal
   reopen_acts who word (Set true) r journal h =
       acted who (MendMeta word) (Set true) r journal (record { there = tt; allowed = tt }) (λ j. refl) (λ j. refl) refl refl h
-      (mended_told (state_of f.journal).register f.register ok.register r h.does.1.0 word h.does.1.1)
+      (mended_told (state_of f.journal).register f.register ok.register r word h.sound h.does)
   reopen_acts who word (Set false) r journal h =
       acted who (MendMeta word) (Set false) r journal (record { there = tt; allowed = tt }) (λ j. refl) (λ j. refl) refl refl h
-      (missed_told (state_of f.journal).register f.register ok.register r _ _ word h.does.2)
+      (missed_told (state_of f.journal).register f.register ok.register r _ _ _ _ h.does.1)
   reopen_acts who word answer r journal h = absurd h.does
 
   pub reopen_goes : (who word : ℕ) (answer : FabricAnswer) (r : RegisterView) (journal : List Event) → RegisterApplies f.register f.journal who (MendMeta word) answer r journal → Goes who (MendMeta word) answer r journal
   reopen_goes who word answer r journal h = ⊎_elim
       (λ (x : RegisterActs f.register f.journal who (MendMeta word) answer r journal). reopen_acts who word answer r journal x)
-      (λ (x : (answer ≡ Memory) × (r ≡ f.register) × (journal ≡ f.journal)). unheard who (MendMeta word) answer r journal x.0 x.1 x.2)
+      (λ (x : (answer ≡ Memory) × RegisterLacks f.register (MendMeta word) r × (journal ≡ f.journal)). unheard who (MendMeta word) answer r journal (λ j. refl) x.0 x.1 x.2)
       h

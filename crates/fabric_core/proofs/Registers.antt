@@ -1,5 +1,5 @@
 -- A register that does what it is called for goes on as the journal tells.
-use Rattle.std.proofs.Common.{◌≡◌, inl, inr, ℕ, ◌+◌, ◌<◌, ◌≤◌, ◌^◌, List, Option, Some, None, Bool, true, false, refl, sym, ap, ◌∙◌, subst, ⊎_elim, arith}
+use Rattle.std.proofs.Common.{◌≡◌, inl, inr, ℕ, ◌+◌, ◌<◌, ◌≤◌, ◌^◌, List, Option, Some, None, Ok, Bool, true, false, refl, sym, ap, ◌∙◌, subst, ⊎_elim, arith}
 use Rattle.std.specs.Prelude.{nat_lt}
 use Rattle.std.proofs.lemmas.Bool.Decides.{nat_tests}
 use Rattle.delos_types.specs.declared.entry.Entry.{Entry}
@@ -7,11 +7,12 @@ use Rattle.delos_types.specs.declared.chain.Chain.{Chain}
 use Rattle.chain_map.specs.Chain.{is_chain}
 use Rattle.chain_map.proofs.Changes.{is_chain-extended, is_chain-dropped}
 use Rattle.register_api.specs.View.{RegisterView, IsSound, armed_by}
-use Rattle.register_api.specs.Calls.{GivesNow, Replaces, Fails, reopened}
+use Rattle.register_api.specs.Calls.{GivesNow, Replaces, Fails, Reopens, reopened}
 use Rattle.legal_journal.specs.Moves as moves
 use Rattle.legal_journal.specs.Journal.{RegisterState, State, ends, known, register_after, IsCurrent, Extends, Raises, IsFree, MayFollow}
 use Rattle.legal_journal.proofs.Sound.{StateOk}
 use Rattle.legal_journal.proofs.Chains.{chain_ok}
+use Rattle.fabric_core.specs.Runs.{Drifts}
 use Rattle.fabric_core.specs.Fabric.{IsRegisterAsTold}
 
 -- a register that is up has no torn write
@@ -23,7 +24,7 @@ module _ (r : RegisterState) (v : RegisterView) (m : IsRegisterAsTold r v) where
   pub counted : (new : RegisterView) (n : ℕ) → new ≡ record v { faults = n } → IsRegisterAsTold r new
   counted new n is = subst (IsRegisterAsTold r) (sym is) (record { down = m.down; given = m.given; given_chain = m.given_chain; current = m.current; torn = m.torn })
 
-  -- nor does whether its disk is armed
+  -- nor does the count that its disk is armed with
   pub armed_told : (new : RegisterView) (n : ℕ) → new ≡ armed_by v n → IsRegisterAsTold r new
   armed_told new n is = subst (IsRegisterAsTold r) (sym is) (record { down = m.down; given = m.given; given_chain = m.given_chain; current = m.current; torn = m.torn })
 
@@ -61,11 +62,25 @@ module _ (r : RegisterState) (v : RegisterView) (m : IsRegisterAsTold r v) where
     );
   }
 
+  -- nor do calls for which memory was wanting
+  pub drifted_told : (new : RegisterView) → Drifts v new → IsRegisterAsTold r new
+  drifted_told new d = subst (IsRegisterAsTold r) (sym d.is) (record { down = m.down; given = m.given; given_chain = m.given_chain; current = m.current; torn = m.torn })
+
+  -- it was up
+  idle_told : (new : RegisterView) (n : ℕ) → IsSound v → v.down ≡ false → new ≡ record v { reopenings = n } → IsRegisterAsTold (register_after r (moves.Mends true)) new
+  idle_told new n sound up is = subst (IsRegisterAsTold (register_after r (moves.Mends true))) (sym is) (record {
+    down = up;
+    given = m.given;
+    given_chain = m.given_chain;
+    current = m.current;
+    torn = λ d h. absurd (whole v d sound up h);
+  })
+
   -- it is up again, with the write that faulted or without
-  pub mended_told : (new : RegisterView) (kept : Bool) (word : ℕ) → new ≡ record (reopened v kept v.asked) { told = word } → IsRegisterAsTold (register_after r (moves.Mends true)) new
-  mended_told new kept word is = by_write v.asked refl kept is
+  reopened_told : (new : RegisterView) (kept : Bool) (word n : ℕ) → new ≡ record (reopened v kept v.asked) { word = word; reopenings = n } → IsRegisterAsTold (register_after r (moves.Mends true)) new
+  reopened_told new kept word n is = by_write v.asked refl kept is
     where
-      by_write : (o : Option Chain) → v.asked ≡ o → (kept : Bool) → new ≡ record (reopened v kept o) { told = word } → IsRegisterAsTold (register_after r (moves.Mends true)) new
+      by_write : (o : Option Chain) → v.asked ≡ o → (kept : Bool) → new ≡ record (reopened v kept o) { word = word; reopenings = n } → IsRegisterAsTold (register_after r (moves.Mends true)) new
       by_write None e kept is = subst (IsRegisterAsTold (register_after r (moves.Mends true))) (sym is) (record {
         down = refl;
         given = m.given;
@@ -92,9 +107,17 @@ module _ (r : RegisterState) (v : RegisterView) (m : IsRegisterAsTold r v) where
             torn = λ d h. absurd (cc);
           })
 
+  -- it is up, or up again with the write that faulted or without
+  pub mended_told : (new : RegisterView) (word : ℕ) → IsSound v → Reopens v word (Ok true) new → IsRegisterAsTold (register_after r (moves.Mends true)) new
+  mended_told new word sound h = by v.down refl
+    where
+      by : (b : Bool) → v.down ≡ b → IsRegisterAsTold (register_after r (moves.Mends true)) new
+      by false up = idle_told new _ sound up (h.0 up)
+      by true was = let found = h.1 was in reopened_told new found.0 word _ found.2
+
   -- it didn't come up
-  pub missed_told : (new : RegisterView) (n k word : ℕ) → new ≡ record v { faults = n; misses = k; told = word } → IsRegisterAsTold (register_after r (moves.Mends false)) new
-  missed_told new n k word is = subst (IsRegisterAsTold (register_after r (moves.Mends false))) (sym is) (record { down = m.down; given = m.given; given_chain = m.given_chain; current = m.current; torn = m.torn })
+  pub missed_told : (new : RegisterView) (n k word times : ℕ) → new ≡ record v { faults = n; misses = k; word = word; reopenings = times } → IsRegisterAsTold (register_after r (moves.Mends false)) new
+  missed_told new n k word times is = subst (IsRegisterAsTold (register_after r (moves.Mends false))) (sym is) (record { down = m.down; given = m.given; given_chain = m.given_chain; current = m.current; torn = m.torn })
 
 module _ (cells : ℕ) (w : State) (ok : StateOk cells w) (x : ℕ) (old : Chain) (given : w.register.given x ≡ Some old) where
   -- only what is known has been given

@@ -18,9 +18,9 @@ use Rattle.legal_journal.specs.Journal.{state_of}
 use Rattle.legal_journal.specs.Turns.{MayCall, OwnEvents}
 use Rattle.register_api.specs.View.{RegisterView}
 use Rattle.fabric_core.specs.Runs.{LogletSteps, StepsOf, is_on}
-use Rattle.fabric_core.specs.CellEvent.{CellView, Worked, Happens, Applies, Serves, ServerApplies}
+use Rattle.fabric_core.specs.CellEvent.{CellView, Worked, Happens, Wants, Applies, Serves, ServerLacks, ServerApplies}
 use Rattle.fabric_core.specs.Fabric.{FabricView, FabricOk, IsMarked, MatchesOperation, Adds, Keeps}
-use Rattle.fabric_core.proofs.Acts.{any_serving, cell_acts}
+use Rattle.fabric_core.proofs.Acts.{any_serving, cell_acts, servers_lack}
 use Rattle.fabric_core.proofs.Kept.{IsAfter, begin_kept, carry_kept, forget_kept, stop_kept, mend_kept, stray_kept}
 
 pub map_get : {A C : Type 0} (g : A → C) (xs : List A) (i : ℕ) (x : A) → slice_get xs i ≡ Some x → slice_get (map g xs) i ≡ Some (g x)
@@ -140,21 +140,17 @@ module _ (law : Law) {kinds : List Kind} {A B : Type 0} (view : A → LogletView
         };
       }
 
-  unchanged : (who : ℕ) (call : FabricCall) (answer : FabricAnswer) → (answer ≡ Memory) × (cell_new ≡ cell_old) → Goes who call answer
-  unchanged who call answer h =
-      let cell : view a' ≡ view a = ap (λ (x : CellView). x.loglet) h.1 in
-      let cells_are : map view (set cells i a') ≡ map view cells = map_set view cells i a' ∙ (ap (set (map view cells) i) cell ∙ set_back (map view cells) i (view a) (map_get view cells i a at)) in
-      let mark : items b' ≡ items b = ap (λ (x : CellView). x.marks) h.1 in
-      let marks_are : map items (set marks i b') ≡ map items marks = map_set items marks i b' ∙ (ap (set (map items marks) i) mark ∙ set_back (map items marks) i (items b) (map_get items marks i b marked)) in
-      let journal_is : journal' ≡ journal = ap (λ (x : CellView). x.journal) h.1 in
-      let served : serving a' ≡ serving a = ap (λ (x : CellView). x.serving) h.1 in
-      let serving_are : map serving (set cells i a') ≡ map serving cells = map_set serving cells i a' ∙ (ap (set (map serving cells) i) served ∙ set_back (map serving cells) i (serving a) (map_get serving cells i a at)) in
-      let same : new ≡ old = ap (λ cs. record { cells = cs; serving = map serving (set cells i a'); register = register; journal = journal' }) cells_are
-      ∙ (ap (λ ss. record { cells = map view cells; serving = ss; register = register; journal = journal' }) serving_are
-      ∙ ap (λ j. record { cells = map view cells; serving = map serving cells; register = register; journal = j }) journal_is) in
-      let now : FabricOk law kinds new (map items (set marks i b')) = subst (λ (f : FabricView). FabricOk law kinds f (map items (set marks i b'))) (sym same) (subst (FabricOk law kinds old) (sym marks_are) ok) in record {
+  unheard : (who : ℕ) (call : FabricCall) (answer : FabricAnswer) → ((j : ℕ) → is_on j call ≡ (j == i)) → Wants cell_old call answer cell_new → Goes who call answer
+  unheard who call answer on h =
+      let cells_are : map view (set cells i a') ≡ map view cells = map_set view cells i a' ∙ (ap (set (map view cells) i) h.loglet ∙ set_back (map view cells) i (view a) (map_get view cells i a at)) in
+      let marks_are : map items (set marks i b') ≡ map items marks = map_set items marks i b' ∙ (ap (set (map items marks) i) h.marked ∙ set_back (map items marks) i (items b) (map_get items marks i b marked)) in
+      let same : record new { serving = map serving cells } ≡ old = ap (λ cs. record { cells = cs; serving = map serving cells; register = register; journal = journal' }) cells_are
+      ∙ ap (λ j. record { cells = map view cells; serving = map serving cells; register = register; journal = j }) h.journal in
+      let now : FabricOk law kinds new (map items (set marks i b')) =
+      any_serving law _ _ (map serving (set cells i a')) (subst (λ (f : FabricView). FabricOk law kinds f (map items (set marks i b'))) (sym same) (subst (FabricOk law kinds old) (sym marks_are) ok)) in
+      let left = servers_lack old new call i on (serving a) (serving a') (map_get serving cells i a at) (map_set serving cells i a') h.served cells_are refl h.journal in record {
         now = now;
-        keeps = record { adds = adds_none who call journal journal' answer h.0 journal_is; legal = now.legal; same = λ _. same; acts = inl same };
+        keeps = record { adds = adds_none who call journal journal' answer h.answer h.journal; legal = now.legal; same = λ _. left; acts = inl left };
       }
 
   pub begun : (who : ℕ) (op : Op) (answer : FabricAnswer) → MayCall (state_of journal) law who (Begin i op) → Applies cell_old who (Begin i op) answer cell_new → Goes who (Begin i op) answer
@@ -162,7 +158,7 @@ module _ (law : Law) {kinds : List Kind} {A B : Type 0} (view : A → LogletView
       ⊎_elim
       (λ (x : Happens cell_old who (Begin i op) answer cell_new). happened who (Begin i op) answer (own_begin who i op answer) (λ j. refl) x
       (begin_kept law old (map items marks) ok i (view a) (serving a) (items b) (map_get view cells i a at) (map_get items marks i b marked) who op answer cell_new can x))
-      (λ (x : (answer ≡ Memory) × (cell_new ≡ cell_old)). unchanged who (Begin i op) answer x)
+      (λ (x : Wants cell_old (Begin i op) answer cell_new). unheard who (Begin i op) answer (λ j. refl) x)
       h
 
   pub carried : (who t word : ℕ) (answer : FabricAnswer) → MayCall (state_of journal) law who (Carry i t word) → Applies cell_old who (Carry i t word) answer cell_new → Goes who (Carry i t word) answer
@@ -170,7 +166,7 @@ module _ (law : Law) {kinds : List Kind} {A B : Type 0} (view : A → LogletView
       ⊎_elim
       (λ (x : Happens cell_old who (Carry i t word) answer cell_new). happened who (Carry i t word) answer (own_carry who i t word answer) (λ j. refl) x
       (carry_kept law old (map items marks) ok i (view a) (serving a) (items b) (map_get view cells i a at) (map_get items marks i b marked) who t word answer cell_new can x))
-      (λ (x : (answer ≡ Memory) × (cell_new ≡ cell_old)). unchanged who (Carry i t word) answer x)
+      (λ (x : Wants cell_old (Carry i t word) answer cell_new). unheard who (Carry i t word) answer (λ j. refl) x)
       h
 
   pub forgotten : (who t : ℕ) (answer : FabricAnswer) → MayCall (state_of journal) law who (Forget i t) → Applies cell_old who (Forget i t) answer cell_new → Goes who (Forget i t) answer
@@ -178,7 +174,7 @@ module _ (law : Law) {kinds : List Kind} {A B : Type 0} (view : A → LogletView
       ⊎_elim
       (λ (x : Happens cell_old who (Forget i t) answer cell_new). happened who (Forget i t) answer (own_forget who i t answer) (λ j. refl) x
       (forget_kept law old (map items marks) ok i (view a) (serving a) (items b) (map_get view cells i a at) (map_get items marks i b marked) who t answer cell_new can x))
-      (λ (x : (answer ≡ Memory) × (cell_new ≡ cell_old)). unchanged who (Forget i t) answer x)
+      (λ (x : Wants cell_old (Forget i t) answer cell_new). unheard who (Forget i t) answer (λ j. refl) x)
       h
 
 own_stop : (who i server n : ℕ) (a : FabricAnswer) (steps : LogletSteps) → StepsOf (Stop i server n) a steps → OwnEvents who (Stop i server n) a (record { who = who; call = Stop i server n; answer = a } ∷ [])
@@ -215,7 +211,7 @@ module _ (law : Law) {kinds : List Kind} {A B : Type 0} (view : A → LogletView
     pub keeps : Keeps law before who call answer served_cells
 
   serves : (who : ℕ) (call : FabricCall) (answer : FabricAnswer) → ((steps : LogletSteps) → StepsOf call answer steps → OwnEvents who call answer (record { who = who; call = call; answer = answer } ∷ [])) → ((j : ℕ) → is_on j call ≡ (j == i)) → (Serves worked_old journal who call answer worked_new journal' → IsAfter law before (map items marks) ok i (view a) (serving a) (items mark.0) (map_get view cells i a at) (map_get items marks i mark.0 mark.1) (record { loglet = view a'; serving = serving a'; marks = items mark.0; journal = journal' })) → ServerApplies worked_old journal who call answer worked_new journal' → Served who call answer
-  serves who call answer own on after h = ⊎_elim happened unchanged h
+  serves who call answer own on after h = ⊎_elim happened unheard h
     where
       happened : Serves worked_old journal who call answer worked_new journal' → Served who call answer
       happened x =
@@ -236,18 +232,16 @@ module _ (law : Law) {kinds : List Kind} {A B : Type 0} (view : A → LogletView
             };
           }
 
-      unchanged : (answer ≡ Memory) × (worked_new ≡ worked_old) × (journal' ≡ journal) → Served who call answer
-      unchanged x =
-          let cell : view a' ≡ view a = ap (λ (y : Worked). y.loglet) x.1 in
-          let servers : serving a' ≡ serving a = ap (λ (y : Worked). y.serving) x.1 in
-          let cells_are : map view (set cells i a') ≡ map view cells = map_set view cells i a' ∙ (ap (set (map view cells) i) cell ∙ set_back (map view cells) i (view a) (map_get view cells i a at)) in
-          let serving_are : map serving (set cells i a') ≡ map serving cells = map_set serving cells i a' ∙ (ap (set (map serving cells) i) servers ∙ set_back (map serving cells) i (serving a) (map_get serving cells i a at)) in
-          let same : served_cells ≡ before = ap (λ cs. record { cells = cs; serving = map serving (set cells i a'); register = register; journal = journal' }) cells_are
-          ∙ (ap (λ ss. record { cells = map view cells; serving = ss; register = register; journal = journal' }) serving_are
-          ∙ ap (λ j. record { cells = map view cells; serving = map serving cells; register = register; journal = j }) x.2) in
-          let now : FabricOk law kinds served_cells (map items marks) = subst (λ (f : FabricView). FabricOk law kinds f (map items marks)) (sym same) ok in record {
+      unheard : ServerLacks worked_old journal call answer worked_new journal' → Served who call answer
+      unheard x =
+          let cells_are : map view (set cells i a') ≡ map view cells = map_set view cells i a' ∙ (ap (set (map view cells) i) x.loglet ∙ set_back (map view cells) i (view a) (map_get view cells i a at)) in
+          let same : record served_cells { serving = map serving cells } ≡ before = ap (λ cs. record { cells = cs; serving = map serving cells; register = register; journal = journal' }) cells_are
+          ∙ ap (λ j. record { cells = map view cells; serving = map serving cells; register = register; journal = j }) x.journal in
+          let now : FabricOk law kinds served_cells (map items marks) =
+          any_serving law _ _ (map serving (set cells i a')) (subst (λ (f : FabricView). FabricOk law kinds f (map items marks)) (sym same) ok) in
+          let left = servers_lack before served_cells call i on (serving a) (serving a') (map_get serving cells i a at) (map_set serving cells i a') x.served cells_are refl x.journal in record {
             now = now;
-            keeps = record { adds = adds_none who call journal journal' answer x.0 x.2; legal = now.legal; same = λ _. same; acts = inl same };
+            keeps = record { adds = adds_none who call journal journal' answer x.answer x.journal; legal = now.legal; same = λ _. left; acts = inl left };
           }
 
   pub stopped : (who server n : ℕ) (answer : FabricAnswer) → MayCall (state_of journal) law who (Stop i server n) → ServerApplies worked_old journal who (Stop i server n) answer worked_new journal' → Served who (Stop i server n) answer

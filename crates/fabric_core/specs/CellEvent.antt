@@ -13,7 +13,7 @@ use Rattle.legal_journal.specs.declared.events.FabricCall.TheVariants.{Begin, Ca
 use Rattle.legal_journal.specs.declared.events.FabricAnswer.{FabricAnswer}
 use Rattle.legal_journal.specs.declared.events.FabricAnswer.TheVariants.{Begun, Done, NoTicket, Gone, Memory}
 use Rattle.legal_journal.specs.declared.events.Event.{Event}
-use Rattle.fabric_core.specs.Runs.{LogletSteps, CarriesFirst, StepsOf}
+use Rattle.fabric_core.specs.Runs.{LogletSteps, CarriesFirst, StepsOf, MayTake, ServersLack}
 
 -- an answer that is an entry
 abbrev pub IsGot : Answer → Type 0
@@ -34,7 +34,7 @@ pub record Works (old : Worked) (steps : LogletSteps) (new : Worked) : Type 0 wh
 abbrev pub CarriedOnce : Worked → ℕ → ℕ → Result (Option Answer) AllocError → Worked → Type 0
 CarriedOnce old t word (Ok (Some a)) new = (steps : LogletSteps) × CarriesFirst t word ((call.Take t, answer.Taken (Some a)) ∷ []) steps × Works old steps new
 CarriedOnce old t word (Ok None) new = Works old ((call.Carry t word, answer.Carried) ∷ (call.Take t, answer.Taken None) ∷ []) new
-CarriedOnce old t word (Err e) new = new ≡ old
+CarriedOnce old t word (Err e) new = (new.loglet ≡ old.loglet) × MayTake old.serving (call.Carry t word) new.serving
 
 -- the tickets that are open after the event
 abbrev pub marks_after : List Bool → FabricCall → FabricAnswer → List Bool
@@ -68,11 +68,19 @@ pub record Happens (old : CellView) (who : ℕ) (c : FabricCall) (a : FabricAnsw
   pub marked : new.marks ≡ marks_after old.marks c a
   pub recorded : new.journal ≡ old.journal ++ record { who = who; call = c; answer = a } ∷ []
 
--- an event, or want of memory that left all as it was
-abbrev pub Applies : CellView → ℕ → FabricCall → FabricAnswer → CellView → Type 0
-Applies old who c a new = Happens old who c a new ⊎ ((a ≡ Memory) × (new ≡ old))
+-- There was no memory: all is as it was, but for writes that a server's disk took before.
+pub record Wants (old : CellView) (c : FabricCall) (a : FabricAnswer) (new : CellView) : Type 0 where
+  pub answer : a ≡ Memory
+  pub loglet : new.loglet ≡ old.loglet
+  pub served : ServersLack old.serving c new.serving
+  pub marked : new.marks ≡ old.marks
+  pub journal : new.journal ≡ old.journal
 
--- An event that closes and opens no ticket is recorded as it happened; or there was no memory, and nothing changed.
+-- an event, or want of memory
+abbrev pub Applies : CellView → ℕ → FabricCall → FabricAnswer → CellView → Type 0
+Applies old who c a new = Happens old who c a new ⊎ Wants old c a new
+
+-- An event that closes and opens no ticket is recorded as it happened.
 pub record Serves (old : Worked) (before : List Event) (who : ℕ) (c : FabricCall) (a : FabricAnswer) (new : Worked) (now : List Event) : Type 0 where
   pub steps : LogletSteps
   pub are : StepsOf c a steps
@@ -80,5 +88,12 @@ pub record Serves (old : Worked) (before : List Event) (who : ℕ) (c : FabricCa
   pub served : ServesAll old.serving steps new.serving
   pub recorded : now ≡ before ++ record { who = who; call = c; answer = a } ∷ []
 
+-- There was no memory: the loglet shows what it showed, but a disk may have been reopened, or have taken writes.
+pub record ServerLacks (old : Worked) (before : List Event) (c : FabricCall) (a : FabricAnswer) (new : Worked) (now : List Event) : Type 0 where
+  pub answer : a ≡ Memory
+  pub loglet : new.loglet ≡ old.loglet
+  pub served : ServersLack old.serving c new.serving
+  pub journal : now ≡ before
+
 abbrev pub ServerApplies : Worked → List Event → ℕ → FabricCall → FabricAnswer → Worked → List Event → Type 0
-ServerApplies old before who c a new now = Serves old before who c a new now ⊎ ((a ≡ Memory) × (new ≡ old) × (now ≡ before))
+ServerApplies old before who c a new now = Serves old before who c a new now ⊎ ServerLacks old before c a new now

@@ -16,7 +16,7 @@ use Rattle.legal_journal.specs.Told.{Running}
 use Rattle.legal_journal.specs.Journal.{CellState, RegisterState, State, state_of, IsLegal, IsCurrent, patience}
 use Rattle.legal_journal.specs.Turns.{OwnEvents}
 use Rattle.register_api.specs.View.{RegisterView}
-use Rattle.fabric_core.specs.Runs.{LogletSteps, StepsOf, is_on, RegisterDoes, is_on_register, HasRun, HasRegisterRun}
+use Rattle.fabric_core.specs.Runs.{LogletSteps, StepsOf, is_on, RegisterDoes, RegisterLacks, ServersLack, is_on_register, HasRun, HasRegisterRun}
 
 -- the loglets of the shelf, the servers of each, the register, and the journal of all events
 pub record FabricView : Type 0 where
@@ -105,10 +105,19 @@ pub record Acts (old : FabricView) (call : FabricCall) (answer : FabricAnswer) (
   pub each : (i : ℕ) → ActsOn i call answer old new
   pub register : MatchBool (is_on_register call) (RegisterDoes old.register call answer new.register) (new.register ≡ old.register)
 
+-- A call for which memory was wanting, and which is no event: all is as it was, but for the disk of the register or server
+-- that was to be reopened, and the count of writes of a register that was to be written.
+pub record Lacks (old : FabricView) (call : FabricCall) (new : FabricView) : Type 0 where
+  pub cells : new.cells ≡ old.cells
+  pub serving : length new.serving ≡ length old.serving
+  pub each : (i : ℕ) (u : ServersView) → slice_get old.serving i ≡ Some u → (v : ServersView) × (slice_get new.serving i ≡ Some v) × MatchBool (is_on i call) (ServersLack u call v) (v ≡ u)
+  pub register : RegisterLacks old.register call new.register
+  pub journal : new.journal ≡ old.journal
+
 -- A call adds its event, the journal stays legal, and what the event tells is what was done, from the state before; with
--- Memory nothing changes, but as a Carry's event tells.
+-- Memory there is no event, but for a Carry's.
 pub record Keeps (law : Law) (old : FabricView) (who : ℕ) (call : FabricCall) (answer : FabricAnswer) (new : FabricView) : Type 0 where
   pub adds : Adds old.journal who call answer new.journal
   pub legal : IsLegal law new.journal
-  pub same : new.journal ≡ old.journal → new ≡ old
-  pub acts : (new ≡ old) ⊎ Acts old call answer new
+  pub same : new.journal ≡ old.journal → Lacks old call new
+  pub acts : Lacks old call new ⊎ Acts old call answer new

@@ -5,7 +5,7 @@ use Rattle.legal_journal.specs.declared.events.FabricCall.{FabricCall}
 use Rattle.legal_journal.specs.declared.events.FabricAnswer.{FabricAnswer}
 use Rattle.legal_journal.specs.declared.events.FabricAnswer.TheVariants.{Memory}
 use Rattle.legal_journal.specs.declared.events.Event.{Event}
-use Rattle.fabric_core.specs.Runs.{RegisterDoes}
+use Rattle.fabric_core.specs.Runs.{RegisterDoes, RegisterLacks}
 
 -- The event is recorded as it happened.
 pub record RegisterActs (old : RegisterView) (before : List Event) (who : ℕ) (call : FabricCall) (answer : FabricAnswer) (new : RegisterView) (now : List Event) : Type 0 where
@@ -13,7 +13,7 @@ pub record RegisterActs (old : RegisterView) (before : List Event) (who : ℕ) (
   pub does : RegisterDoes old call answer new
   pub recorded : now ≡ before ++ record { who = who; call = call; answer = answer } ∷ []
 
--- an event, or want of memory that left all as it was
+-- an event, or want of memory
 abbrev pub RegisterApplies : RegisterView → List Event → ℕ → FabricCall → FabricAnswer → RegisterView → List Event → Type 0
 RegisterApplies old before who call answer new now =
-    RegisterActs old before who call answer new now ⊎ ((answer ≡ Memory) × (new ≡ old) × (now ≡ before))
+    RegisterActs old before who call answer new now ⊎ ((answer ≡ Memory) × RegisterLacks old call new × (now ≡ before))

@@ -1,5 +1,5 @@
 -- Which calls of its loglets and its register a fabric makes for an event, and that those of each are a run.
-use Rattle.std.specs.Prelude.{◌≡◌, ◌⊎◌, ◌==◌, ℕ, Bool, true, false, MatchBool, List, [], ◌∷◌, None, Some, Ok}
+use Rattle.std.specs.Prelude.{◌≡◌, ◌⊎◌, ◌==◌, ℕ, ◌≤◌, nat_lt, Bool, true, false, MatchBool, List, [], ◌∷◌, None, Some, Ok}
 use Rattle.loglet_api.specs.declared.call.Refused.TheVariants as refused
 use Rattle.loglet_api.specs.declared.call.LogletCall.{LogletCall}
 use Rattle.loglet_api.specs.declared.call.LogletCall.TheVariants as call
@@ -7,11 +7,12 @@ use Rattle.loglet_api.specs.declared.call.LogletAnswer.{LogletAnswer}
 use Rattle.loglet_api.specs.declared.call.LogletAnswer.TheVariants as answer
 use Rattle.loglet_api.specs.View.{LogletView, IsFresh}
 use Rattle.loglet_api.specs.Run.{LogletRun}
+use Rattle.loglet_api.specs.Servers.{ServersView, Serves}
 use Rattle.register_api.specs.declared.answer.ReadAnswer.TheVariants as read
 use Rattle.register_api.specs.declared.answer.WriteAnswer.TheVariants as write
 use Rattle.register_api.specs.View as register
 use Rattle.register_api.specs.View.{RegisterView, armed_by}
-use Rattle.register_api.specs.Calls.{Reads, Writes, Reopens}
+use Rattle.register_api.specs.Calls.{Reads, Writes, Reopens, TakesOne, Tries}
 use Rattle.legal_journal.specs.declared.events.FabricCall.{FabricCall}
 use Rattle.legal_journal.specs.declared.events.FabricCall.TheVariants.{Begin, Carry, Forget, ReadChain, WriteChain, Stop, Mend, Stray, StopMeta, MendMeta}
 use Rattle.legal_journal.specs.declared.events.FabricAnswer.{FabricAnswer}
@@ -101,13 +102,40 @@ is_on_register (Stop j server n) = false
 is_on_register (Mend j server word) = false
 is_on_register (Stray j word) = false
 
--- what the event does to the register
-abbrev pub RegisterStep : RegisterView → Event → RegisterView → Type 0
-RegisterStep old e new = MatchBool (is_on_register e.call) (RegisterDoes old e.call e.answer new) (new ≡ old)
+-- A call for which memory was wanting is no event. It may have taken one of the writes that an armed register counts, and
+-- not the last, or have reopened the disk of a register that is down.
+abbrev pub RegisterLacks : RegisterView → FabricCall → RegisterView → Type 0
+RegisterLacks old (WriteChain x c) new = TakesOne old.armed new.armed × (new ≡ record old { armed = new.armed })
+RegisterLacks old (MendMeta word) new = (new ≡ old) ⊎ (Tries old word new × (new ≡ record old { word = new.word }))
+RegisterLacks old call new = new ≡ old
 
--- The events are a run of the register.
+-- the servers after a call of a loglet that wasn't made, or was refused for memory
+abbrev pub MayTake : ServersView → LogletCall → ServersView → Type 0
+MayTake old c new = (new ≡ old) ⊎ Serves old c (answer.Refusal refused.Memory) new
+
+-- .. and some of those that a server's disk counts, or have reopened it
+abbrev pub ServersLack : ServersView → FabricCall → ServersView → Type 0
+ServersLack old (Carry i t word) new = MayTake old (call.Carry t word) new
+ServersLack old (Mend i server word) new = MayTake old (call.Restart server word) new
+ServersLack old (Stray i word) new = MayTake old (call.Stray word) new
+ServersLack old call new = new ≡ old
+
+-- what such calls of the register come to, one after another
+pub record Drifts (old new : RegisterView) : Type 0 where
+  pub is : new ≡ record old { armed = new.armed; word = new.word }
+  pub fewer : new.armed ≤ old.armed
+  pub still : nat_lt 0 new.armed ≡ nat_lt 0 old.armed
+  pub word : old.down ≡ false → new.word ≡ old.word
+
+-- what the event does to the register, after calls that are no events
+pub record RegisterStep (old : RegisterView) (e : Event) (new : RegisterView) : Type 0 where
+  pub before : RegisterView
+  pub drifted : Drifts old before
+  pub does : MatchBool (is_on_register e.call) (RegisterDoes before e.call e.answer new) (new ≡ before)
+
+-- The events are a run of the register, with such calls between them and at the end.
 abbrev pub RegisterRun : RegisterView → List Event → RegisterView → Type 0
-RegisterRun old [] new = new ≡ old
+RegisterRun old [] new = Drifts old new
 RegisterRun old (e ∷ es) new =
     (mid : RegisterView) × RegisterStep old e mid × RegisterRun mid es new
 

@@ -43,7 +43,8 @@ fn copy_of(answer: &Answer) -> Result<Answer, AllocError>
 }
 
 /// Carries an open operation once, where it is undecided, and takes its answer, where it is decided
-/// then. Want of memory leaves all as it was, and is the only refusal of a carry.
+/// then. Want of memory leaves all as it was, but for writes that a disk took before, and is the only
+/// refusal of a carry.
 fn carry_once<L: Loglet>(
     loglet: &mut L,
     ticket: Ticket,

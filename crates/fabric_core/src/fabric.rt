@@ -233,7 +233,8 @@ impl<L: Loglet, R: Register, P: Rules> Fabric<L, R, P> {
         reopen_in(&mut self.register, &mut self.journal, who, word)
     }
 
-    /// Makes one event. With `Memory` nothing changes, but for a `Carry` whose event has that answer.
+    /// Makes one event. With `Memory` it makes none, but for a `Carry` whose event has that answer, and nothing changes but
+    /// what a disk did before memory was wanting: writes that it took, or a reopening.
     ///
     /// Cost: that of the loglet's or the register's calls, and O(1) beside them, amortized. A chain
     /// that the register gives is copied, of 64 segments at most.

@@ -16,12 +16,14 @@ use Rattle.file_loglet.specs.declared.marks.Marks.{Marks}
 use Rattle.file_loglet.specs.declared.pending.Pending.{Pending}
 use Rattle.file_loglet.specs.declared.pending.Decided.{Decided}
 use Rattle.file_loglet.specs.Held.{Held}
-use Rattle.file_loglet.specs.Later.{Copies, MayStand, IsLater, MayFail, is_sealing}
+use Rattle.file_loglet.specs.Later.{Copies, MayStand, IsLater, Wore, is_sealing}
+use Rattle.disk_model.specs.Disk.{bumped as disk_bumped}
 use Rattle.file_loglet.specs.Pending.{PendingMap, Fits, SetsAnswer, TakesOut, Waits, told_at}
 use Rattle.file_loglet.specs.State.{counted, down_of, state_of, loglet_of, IsPending, IsWhole}
 use Rattle.file_loglet.specs.File.{FileView, file_view, IsDecidedAtOnce}
 use Rattle.file_loglet.proofs.Steps.{carries, decided_at_once, begin_all, refuses, file_faults, file_same, same_lists, take_all, small_taken, small_size, waits_undecided, slice_get-append, cut_rises}
-use Rattle.file_loglet.proofs.Wholes.{shows, carried_onward, whole_onward, whole_answered, rose_counted}
+use Rattle.file_loglet.proofs.Laters.{MayFail, wore_may_fail}
+use Rattle.file_loglet.proofs.Wholes.{shows, carried_onward, whole_onward, whole_answered}
 
 -- ---- Carry
 
@@ -46,31 +48,35 @@ whole_tried room es old new marks m t p h at l f =
     whole_onward room es old new marks m (is_sealing p.task) h mine l (carried_onward room es old new marks m (is_sealing p.task) h mine l f)
 
 -- and then the operation has its answer
-pub whole_carried : (room : ℕ) (es xs : List Entry) (old new : Held) (marks : Marks) (m n : PendingMap) (t : ℕ) (p : Pending) (y : Answer) → IsWhole room es old marks m → get nat_eq m t ≡ Some p → xs ≡ es → IsLater xs marks.cut (is_sealing p.task) old.server new.server → MayFail old new
+pub whole_carried : (room : ℕ) (es xs : List Entry) (old new : Held) (marks : Marks) (m n : PendingMap) (t : ℕ) (p : Pending) (y : Answer) → IsWhole room es old marks m → get nat_eq m t ≡ Some p → xs ≡ es → IsLater xs marks.cut (is_sealing p.task) old.server new.server → Wore old new
     → Fits xs (length_of new.server) (is_sealed new.server) (new.server.up ≡ false) p p.task y → SetsAnswer m t y n → IsWhole room es new marks n
 whole_carried room es xs old new marks m n t p y h at e l f fits s =
     let l' = subst (λ (zs : List Entry). IsLater zs marks.cut (is_sealing p.task) old.server new.server) e l in
     let fits' = subst (λ (zs : List Entry). Fits zs (length_of new.server) (is_sealed new.server) (new.server.up ≡ false) p p.task y) e fits in
-    whole_answered room es new marks m n t p y (whole_tried room es old new marks m t p h at l' f) at fits' (s.answered p at) s.as_many
+    whole_answered room es new marks m n t p y (whole_tried room es old new marks m t p h at l' (wore_may_fail old new f)) at fits' (s.answered p at) s.as_many
 
-pub carries_whole : (room : ℕ) (es : List Entry) (old new : Held) (marks : Marks) (m n : PendingMap) (w : FileView) (t : ℕ) (p : Pending) (y : Answer) → file_view room es old marks m ≡ w → IsWhole room es old marks m → get nat_eq m t ≡ Some p → IsLater es marks.cut (is_sealing p.task) old.server new.server → MayFail old new
+pub carries_whole : (room : ℕ) (es : List Entry) (old new : Held) (marks : Marks) (m n : PendingMap) (w : FileView) (t : ℕ) (p : Pending) (y : Answer) → file_view room es old marks m ≡ w → IsWhole room es old marks m → get nat_eq m t ≡ Some p → IsLater es marks.cut (is_sealing p.task) old.server new.server → Wore old new
     → SetsAnswer m t y n → IsUndecidedAt w.loglet t → Carries (loglet_of (state_of room es old marks m)) t (loglet_of (state_of room es new marks n))
 carries_whole room es old new marks m n w t p y e h at l f s undecided =
     let mine = seal_begun room es old marks m t p h at in
     carries (state_of room es old marks m) (length_of new.server) (is_sealed new.server) new.server.base (counted new.disk.faults marks.refusals) (down_of new.server.up) t p y n
-    (carried_onward room es old new marks m (is_sealing p.task) h mine l f) at (s.answered p at)
+    (carried_onward room es old new marks m (is_sealing p.task) h mine l (wore_may_fail old new f)) at (s.answered p at)
     (subst (λ (v : LogletView). IsUndecidedAt v t) (sym (shows room es old marks m w e)) undecided)
 
-may_fail : (old new : Held) (r : ℕ) → MayFail old new
-    → ((counted new.disk.faults r ≡ counted old.disk.faults r) × (down_of new.server.up ≡ down_of old.server.up)) ⊎ ((down_of new.server.up ≡ 1) × RoseBy 1 (counted old.disk.faults r) (counted new.disk.faults r))
-may_fail old new r (inl same) = inl (ap (λ n. counted n r) same.1, ap down_of same.0)
-may_fail old new r (inr failed) = inr (ap down_of failed.0, rose_counted old.disk.faults new.disk.faults r 1 (omega arith) failed.1)
+one_counted : (f r : ℕ) → counted (disk_bumped f) r ≡ bumped (counted f r)
+one_counted f r = omega arith
 
-pub at_once_whole : (room : ℕ) (es : List Entry) (old new : Held) (marks : Marks) (m n : PendingMap) (w : FileView) (t : ℕ) (p : Pending) (y : Answer) → file_view room es old marks m ≡ w → get nat_eq m t ≡ Some p → MayFail old new → SetsAnswer m t y n
+failed_once : (old new : Held) (r : ℕ) → Wore old new
+    → ((counted new.disk.faults r ≡ counted old.disk.faults r) × (down_of new.server.up ≡ down_of old.server.up))
+    ⊎ ((down_of old.server.up ≡ 0) × (down_of new.server.up ≡ 1) × (counted new.disk.faults r ≡ bumped (counted old.disk.faults r)))
+failed_once old new r (inl same) = inl (ap (λ n. counted n r) same.1.faults, ap down_of same.0)
+failed_once old new r (inr failed) = inr (ap down_of failed.0, ap down_of failed.1, ap (λ n. counted n r) failed.2.faults ∙ one_counted old.disk.faults r)
+
+pub at_once_whole : (room : ℕ) (es : List Entry) (old new : Held) (marks : Marks) (m n : PendingMap) (w : FileView) (t : ℕ) (p : Pending) (y : Answer) → file_view room es old marks m ≡ w → get nat_eq m t ≡ Some p → Wore old new → SetsAnswer m t y n
     → IsDecidedAtOnce w.loglet t (loglet_of (state_of room es new marks n))
 at_once_whole room es old new marks m n w t p y e at f s =
     subst (λ (v : LogletView). IsDecidedAtOnce v t (loglet_of (state_of room es new marks n))) (shows room es old marks m w e)
-    (decided_at_once (state_of room es old marks m) (length_of new.server) (is_sealed new.server) new.server.base (counted new.disk.faults marks.refusals) (down_of new.server.up) t p y n at (s.answered p at) (may_fail old new marks.refusals f))
+    (decided_at_once (state_of room es old marks m) (length_of new.server) (is_sealed new.server) new.server.base (counted new.disk.faults marks.refusals) (down_of new.server.up) t p y n at (s.answered p at) (failed_once old new marks.refusals f))
 
 -- a want of memory shows nothing
 pub unmoved_shown : (room : ℕ) (es : List Entry) (old new : Held) (marks : Marks) (m : PendingMap) → new.server.up ≡ old.server.up → new.disk.faults ≡ old.disk.faults → is_sealed new.server ≡ is_sealed old.server → loglet_of (state_of room es new marks m) ≡ loglet_of (state_of room es old marks m)

@@ -268,7 +268,7 @@ carries a stored sealed base faults down t p y m o at u undecided =
 
 -- it is decided then
 pub decided_at_once : (a : State) (stored : ℕ) (sealed : Bool) (base faults down : ℕ) (t : ℕ) (p : Pending) (y : Answer) (m : PendingMap) → get nat_eq a.pending t ≡ Some p → Updates nat_eq a.pending m t (Some (answered p y))
-    → ((faults ≡ a.faults) × (down ≡ a.down)) ⊎ ((down ≡ 1) × RoseBy 1 a.faults faults) → IsDecidedAtOnce (loglet_of a) t (loglet_of (with_pending (with_server a stored sealed base faults down) m))
+    → ((faults ≡ a.faults) × (down ≡ a.down)) ⊎ ((a.down ≡ 0) × (down ≡ 1) × (faults ≡ bumped a.faults)) → IsDecidedAtOnce (loglet_of a) t (loglet_of (with_pending (with_server a stored sealed base faults down) m))
 decided_at_once a stored sealed base faults down t p y m at u failed = record {
   operation = operation_of (answered p y);
   is = puts a.pending m t (Some (answered p y)) u t ∙ (let same : nat_eq t t ≡ true = grind (arith, nat_tests) in rw same refl);

@@ -14,18 +14,19 @@ use Rattle.loglet_api.specs.Step.{LogletStep, Does, CanCall, HasLeft, Forgets, R
 use Rattle.quorum_cell.specs.declared.message.Ask.{Ask}
 use Rattle.quorum_cell.specs.declared.message.Ask.TheVariants.{Store, Seal, Tail, Repair, Read, Trim}
 use Rattle.quorum_cell.specs.Servers.{Server, length_of, is_sealed, writes, wrote, written, restarted}
+use Rattle.file_loglet.specs.declared.marks.Asked.{Asked}
 use Rattle.file_loglet.specs.declared.marks.Marks.{Marks}
 use Rattle.file_loglet.specs.declared.pending.Pending.{Pending}
-use Rattle.file_loglet.specs.Held.{Held, Rises, Brings}
-use Rattle.file_loglet.specs.Later.{MayStand, IsLater, MayFail}
-use Rattle.disk_model.specs.Disk.{DiskView}
+use Rattle.file_loglet.specs.Held.{Held, IsCalm, Brings}
+use Rattle.file_loglet.specs.Later.{MayStand, IsLater}
+use Rattle.disk_model.specs.Disk.{DiskView, bumped}
 use Rattle.file_loglet.specs.Pending.{PendingMap, Fits, left_of}
 use Rattle.file_loglet.specs.State.{counted, down_of, state_of, loglet_of, MayLack, IsWhole}
 use Rattle.journal_core.specs.Journal.{LeavesRecords}
 use Rattle.server_records.specs.Spelled.{server_of}
 use Rattle.file_loglet.specs.File.{FileView, file_view, IsServed}
 use Rattle.file_loglet.proofs.Sound.{file_sound, slice_get-drop}
-use Rattle.file_loglet.proofs.Laters.{later_same, later_then, stored_later, trimmed_later}
+use Rattle.file_loglet.proofs.Laters.{later_same, later_then, stored_later, trimmed_later, wrote_up, MayFail}
 use Rattle.file_loglet.proofs.Told.{Grows, fits_later, answered}
 use Rattle.file_loglet.proofs.Steps.{Onward, file_onward, file_answered, step_from, step_same, step_alike, moves_same, moves_onward, forgets, open_at, has_left}
 
@@ -37,22 +38,19 @@ sound room es held marks m w e h = subst IsSound (shows room es held marks m w e
 
 -- ---- counts of faults
 
-pub rose_counted : (f g r n : ℕ) → n ≤ 1 → Rises f g → RoseBy n (counted f r) (counted g r)
-rose_counted f g r n one h = elim h.1 [ inl rose ↦ omega (arith, h.0) | inr full ↦ omega (arith, h.0) ]
+pub rose_counted : (f g r n : ℕ) → n ≤ 1 → g ≡ bumped f → RoseBy n (counted f r) (counted g r)
+rose_counted f g r n one h = omega (arith, h)
 
 same_counted : (f g r : ℕ) → g ≡ f → RoseBy 0 (counted f r) (counted g r)
 same_counted f g r e = omega arith
-
-more_counted : (f g r : ℕ) → f ≤ g → counted f r ≤ counted g r
-more_counted f g r h = omega arith
 
 small_down : (b : Bool) → down_of b ≤ 1
 small_down true = omega arith
 small_down false = omega arith
 
-risen : (old new : Held) → MayFail old new → old.disk.faults ≤ new.disk.faults
-risen old new (inl same) = omega (arith, same.1)
-risen old new (inr failed) = failed.1.0
+risen : (old new : Held) (r : ℕ) → MayFail old new → counted old.disk.faults r ≤ counted new.disk.faults r
+risen old new r (inl same) = omega (arith, same.1)
+risen old new r (inr failed) = omega (arith, failed.1)
 
 down_rose : (old new : Held) (r : ℕ) → MayFail old new → RoseBy (down_of new.server.up - down_of old.server.up) (counted old.disk.faults r) (counted new.disk.faults r)
 down_rose old new r (inl same) = rw same.0 (let none : down_of old.server.up - down_of old.server.up ≡ 0 = omega arith in rw none (same_counted old.disk.faults new.disk.faults r same.1))
@@ -61,7 +59,7 @@ down_rose old new r (inr failed) = rw failed.0 (rose_counted old.disk.faults new
 -- ---- the server goes on
 
 pub onward : (room : ℕ) (es : List Entry) (old new : Held) (marks : Marks) (m : PendingMap) (sealing : Bool) → IsWhole room es old marks m → (sealing ≡ true → 1 ≤ marks.seals) → IsLater es marks.cut sealing old.server new.server
-    → old.disk.faults ≤ new.disk.faults → RoseBy (down_of new.server.up - down_of old.server.up) (counted old.disk.faults marks.refusals) (counted new.disk.faults marks.refusals)
+    → counted old.disk.faults marks.refusals ≤ counted new.disk.faults marks.refusals → RoseBy (down_of new.server.up - down_of old.server.up) (counted old.disk.faults marks.refusals) (counted new.disk.faults marks.refusals)
     → Onward (state_of room es old marks m) (length_of new.server) (is_sealed new.server) new.server.base (counted new.disk.faults marks.refusals) (down_of new.server.up)
 onward room es old new marks m sealing h mine l faults down =
     record {
@@ -70,7 +68,7 @@ onward room es old new marks m sealing h mine l faults down =
       still = l.still;
       seals = λ s. elim (l.seals s) [ inl before ↦ h.file.sealing before | inr now ↦ mine now ];
       base = l.base h.file.base;
-      faults = more_counted old.disk.faults new.disk.faults marks.refusals faults;
+      faults = faults;
       small = omega arith;
       down = down;
       one = small_down new.server.up;
@@ -78,7 +76,7 @@ onward room es old new marks m sealing h mine l faults down =
 
 pub carried_onward : (room : ℕ) (es : List Entry) (old new : Held) (marks : Marks) (m : PendingMap) (sealing : Bool) → IsWhole room es old marks m → (sealing ≡ true → 1 ≤ marks.seals) → IsLater es marks.cut sealing old.server new.server → MayFail old new
     → Onward (state_of room es old marks m) (length_of new.server) (is_sealed new.server) new.server.base (counted new.disk.faults marks.refusals) (down_of new.server.up)
-carried_onward room es old new marks m sealing h mine l f = onward room es old new marks m sealing h mine l (risen old new f) (down_rose old new marks.refusals f)
+carried_onward room es old new marks m sealing h mine l f = onward room es old new marks m sealing h mine l (risen old new marks.refusals f) (down_rose old new marks.refusals f)
 
 stands_begun : (es : List Entry) (cut seals : ℕ) (sealing : Bool) (torn : Option Ask) → (sealing ≡ true → 1 ≤ seals) → MayStand es cut sealing torn → MayStand es cut (nat_lt 0 seals) torn
 stands_begun es cut seals sealing None mine h = tt
@@ -156,14 +154,6 @@ restarted_later es cut sealing s kept None within h = record { rises = omega ari
 restarted_later es cut sealing s true (Some ask) within h = later_then es cut sealing s (record s { up = true; torn = None }) _ (up_later es cut sealing s) (written_later es cut sealing (record s { up = true; torn = None }) ask within h)
 restarted_later es cut sealing s false (Some ask) within h = up_later es cut sealing s
 
-wrote_up : (s : Server) (ask : Ask) → s.up ≡ true → (wrote s ask).up ≡ true
-wrote_up s (Store p e) h = h
-wrote_up s Seal h = h
-wrote_up s Tail h = h
-wrote_up s (Repair p e) h = h
-wrote_up s (Read p) h = h
-wrote_up s (Trim n) h = h
-
 written_up : (s : Server) (ask : Ask) → s.up ≡ true → (written s ask).up ≡ true
 written_up s ask h = elim (cases_Bool (writes s ask)) [ inl does ↦ rw does (wrote_up s ask h) | inr doesnt ↦ rw doesnt h ]
 
@@ -183,13 +173,13 @@ restart_later room es old new marks m kept h e =
 pub seals_begun : (n : ℕ) → nat_lt 0 n ≡ true → 1 ≤ n
 seals_begun n h = let lt : 0 < n = grind (arith, nat_tests) in omega arith
 
--- ---- a word is noted
+-- ---- what was asked is noted
 
-pub given_whole : (room : ℕ) (es : List Entry) (held : Held) (marks marks' : Marks) (m : PendingMap) (word : ℕ) → IsWhole room es held marks m → marks' ≡ record marks { word = word } → IsWhole room es held marks' m
-given_whole room es held marks marks' m word h em = rw em (record { file = h.file; copies = h.copies; torn = h.torn })
+pub asked_whole : (room : ℕ) (es : List Entry) (held : Held) (marks marks' : Marks) (m : PendingMap) (asked : Asked) → IsWhole room es held marks m → marks' ≡ record marks { asked = asked } → IsWhole room es held marks' m
+asked_whole room es held marks marks' m asked h em = rw em (record { file = h.file; copies = h.copies; torn = h.torn })
 
-pub given_shown : (room : ℕ) (es : List Entry) (held : Held) (marks marks' : Marks) (m : PendingMap) (word : ℕ) → marks' ≡ record marks { word = word } → loglet_of (state_of room es held marks' m) ≡ loglet_of (state_of room es held marks m)
-given_shown room es held marks marks' m word em = rw em refl
+pub asked_shown : (room : ℕ) (es : List Entry) (held : Held) (marks marks' : Marks) (m : PendingMap) (asked : Asked) → marks' ≡ record marks { asked = asked } → loglet_of (state_of room es held marks' m) ≡ loglet_of (state_of room es held marks m)
+asked_shown room es held marks marks' m asked em = rw em refl
 
 -- ---- steps, by the parts
 
@@ -215,16 +205,16 @@ same_shown room es old new marks m e f =
     ap (λ (s : Server). loglet_of (state_of room es (record { server = s; disk = new.disk }) marks m)) e
     ∙ ap (λ (n : ℕ). record (loglet_of (state_of room es old marks m)) { faults = counted n marks.refusals }) f
 
-same_stop : (b : Bool) (d : DiskView) (n : ℕ) → (if b then d else record d { armed = n }).faults ≡ d.faults
-same_stop true d n = refl
-same_stop false d n = refl
+same_stop : (b : Bool) (d : DiskView) (n : ℕ) → IsCalm d (if b then d else record d { armed = n })
+same_stop true d n = record { faults = refl; word = refl }
+same_stop false d n = record { faults = refl; word = refl }
 
-pub stop_faults : (old new : Held) (n : ℕ) → new.disk ≡ (if old.disk.stopped then old.disk else record old.disk { armed = n }) → new.disk.faults ≡ old.disk.faults
-stop_faults old new n d = ap (λ (x : DiskView). x.faults) d ∙ same_stop old.disk.stopped old.disk n
+pub stop_calm : (old new : Held) (n : ℕ) → new.disk ≡ (if old.disk.stopped then old.disk else record old.disk { armed = n }) → IsCalm old.disk new.disk
+stop_calm old new n d = subst (λ (x : DiskView). IsCalm old.disk x) (sym d) (same_stop old.disk.stopped old.disk n)
 
 pub stop_shown : (room : ℕ) (es : List Entry) (old new : Held) (marks : Marks) (m : PendingMap) (n : ℕ) → new.server ≡ old.server → new.disk ≡ (if old.disk.stopped then old.disk else record old.disk { armed = n })
     → loglet_of (state_of room es new marks m) ≡ loglet_of (state_of room es old marks m)
-stop_shown room es old new marks m n e d = same_shown room es old new marks m e (stop_faults old new n d)
+stop_shown room es old new marks m n e d = same_shown room es old new marks m e (stop_calm old new n d).faults
 
 pub forgotten : (room : ℕ) (es : List Entry) (held : Held) (marks : Marks) (m n : PendingMap) (t : ℕ) → IsWhole room es held marks m → Updates nat_eq m n t None → hash_map_len n ≤ hash_map_len m
     → IsWhole room es held marks n × Forgets (loglet_of (state_of room es held marks m)) t (loglet_of (state_of room es held marks n))
@@ -255,7 +245,7 @@ restarts_up room es old new marks m kept h was e f =
       },
     )
 
-pub restarts_not : (room : ℕ) (es : List Entry) (old new : Held) (marks : Marks) (m : PendingMap) → IsWhole room es old marks m → old.server.up ≡ false → new.server ≡ old.server → Rises old.disk.faults new.disk.faults
+pub restarts_not : (room : ℕ) (es : List Entry) (old new : Held) (marks : Marks) (m : PendingMap) → IsWhole room es old marks m → old.server.up ≡ false → new.server ≡ old.server → new.disk.faults ≡ bumped old.disk.faults
     → IsWhole room es new marks m × Restarts (loglet_of (state_of room es old marks m)) false (loglet_of (state_of room es new marks m))
 restarts_not room es old new marks m h was e f =
     let l : IsLater es marks.cut (nat_lt 0 marks.seals) old.server new.server = subst (λ (s : Server). IsLater es marks.cut (nat_lt 0 marks.seals) old.server s) (sym e) (later_same es marks.cut (nat_lt 0 marks.seals) old.server) in
@@ -279,15 +269,15 @@ idle_restart room es held marks m h up =
       idle = λ x. (refl, refl);
     }
 
--- it is up, or came up, or failed; and the word is noted
-pub brought_whole : (room : ℕ) (es : List Entry) (old new : Held) (marks marks' : Marks) (m : PendingMap) (word : ℕ) (up : Bool) → IsWhole room es old marks m → Brings old (Ok up) new → marks' ≡ record marks { word = word }
+-- it is up, or came up, or failed; and that is noted
+pub brought_whole : (room : ℕ) (es : List Entry) (old new : Held) (marks marks' : Marks) (m : PendingMap) (asked : Asked) (word : ℕ) (up : Bool) → IsWhole room es old marks m → Brings word old (Ok up) new → marks' ≡ record marks { asked = asked }
     → IsWhole room es new marks' m × Restarts (loglet_of (state_of room es old marks m)) up (loglet_of (state_of room es new marks' m))
-brought_whole room es old new marks marks' m word true h (inl idle) em = rw (em, idle.1) (record { file = h.file; copies = h.copies; torn = h.torn }, idle_restart room es old marks m h idle.0)
-brought_whole room es old new marks marks' m word true h (inr b) em =
+brought_whole room es old new marks marks' m asked word true h (inl idle) em = rw (em, idle.1) (record { file = h.file; copies = h.copies; torn = h.torn }, idle_restart room es old marks m h idle.0)
+brought_whole room es old new marks marks' m asked word true h (inr b) em =
     let all = restarts_up room es old new marks m b.kept h b.was b.server b.faults in
     rw em (record { file = all.0.file; copies = all.0.copies; torn = all.0.torn }, all.1)
-brought_whole room es old new marks marks' m word false h b em =
-    let all = restarts_not room es old new marks m h b.0 b.1 b.2 in
+brought_whole room es old new marks marks' m asked word false h b em =
+    let all = restarts_not room es old new marks m h b.was b.server b.faults in
     rw em (record { file = all.0.file; copies = all.0.copies; torn = all.0.torn }, all.1)
 
 -- nothing is seen of a want of memory

@@ -1,5 +1,5 @@
 -- What a file loglet shows, and what holds of it.
-use Rattle.std.specs.Prelude.{◌≡◌, ℕ, ◌-◌, ◌≤◌, ◌⊎◌, ◌&&◌, Bool, true, false, Some, List, [], ◌∷◌, slice_get, Result, Ok, Err}
+use Rattle.std.specs.Prelude.{◌≡◌, ℕ, ◌-◌, ◌≤◌, ◌⊎◌, if◌then◌else◌, Bool, true, false, Some, List, [], ◌∷◌, slice_get, Result, Ok, Err}
 use Rattle.delos_types.specs.declared.entry.Entry.{Entry}
 use Rattle.disk_model.specs.Disk.{DiskView}
 use Rattle.journal_core.specs.Journal.{LeavesRecords}
@@ -7,36 +7,44 @@ use Rattle.loglet_api.specs.declared.call.Refused.{Refused}
 use Rattle.loglet_api.specs.declared.call.Refused.TheVariants.{Full}
 use Rattle.loglet_api.specs.View.{LogletView, Operation, operation_at, IsDecided}
 use Rattle.loglet_api.specs.Servers.{ServerState, ServersView}
-use Rattle.loglet_api.specs.Step.{RoseBy, bumped}
+use Rattle.loglet_api.specs.Step.{bumped}
 use Rattle.quorum_cell.specs.Servers.{Server, length_of, is_sealed, restarted}
 use Rattle.server_records.specs.Spelled.{server_of}
+use Rattle.file_loglet.specs.declared.marks.Asked.{Asked}
 use Rattle.file_loglet.specs.declared.marks.Marks.{Marks}
-use Rattle.file_loglet.specs.Held.{Held, is_armed}
+use Rattle.file_loglet.specs.Held.{Held}
 use Rattle.file_loglet.specs.Pending.{PendingMap}
 use Rattle.file_loglet.specs.State.{counted, down_of, state_of, loglet_of}
 
--- A file loglet: what every loglet shows, its server, its disk, how many operations it refused as full, and the word or
--- count that it was given last.
+-- A file loglet: what every loglet shows, its server, its disk, how many operations it refused as full, and what was
+-- asked of its server.
 pub record FileView : Type 0 where
   pub loglet : LogletView
   pub server : Server
   pub disk : DiskView
   pub refusals : ℕ
-  pub word : ℕ
+  pub asked : Asked
 
 abbrev pub file_view : ℕ → List Entry → Held → Marks → PendingMap → FileView
 file_view room entries held marks pending =
-    record { loglet = loglet_of (state_of room entries held marks pending); server = held.server; disk = held.disk; refusals = marks.refusals; word = marks.word }
+    record { loglet = loglet_of (state_of room entries held marks pending); server = held.server; disk = held.disk; refusals = marks.refusals; asked = marks.asked }
 
 abbrev pub held_in : FileView → Held
 held_in v = record { server = v.server; disk = v.disk }
 
--- what is seen of a server
-abbrev pub state_in : Held → ServerState
-state_in h = record { up = h.server.up; armed = h.server.up && is_armed h; faults = h.disk.faults }
+-- what is seen of the server, and of what was asked of it
+abbrev pub state_in : Held → Asked → ServerState
+state_in h asked = record {
+  up = h.server.up;
+  armed = if h.server.up then h.disk.armed else 0;
+  word = h.disk.word;
+  faults = h.disk.faults;
+  stops = asked.stops;
+  restarts = asked.restarts;
+}
 
 abbrev pub serving_of : FileView → ServersView
-serving_of v = record { states = state_in (held_in v) ∷ []; told = v.word }
+serving_of v = record { states = state_in (held_in v) v.asked ∷ []; told = v.asked.told; carries = v.asked.carries; strays = v.asked.strays }
 
 -- What ties the parts of a file loglet together, at every moment.
 pub record IsServed (v : FileView) : Type 0 where
@@ -54,12 +62,12 @@ pub record IsServed (v : FileView) : Type 0 where
   -- what it stores is the log
   pub entries : (p : ℕ) (e : Entry) → v.loglet.cut ≤ p → slice_get v.server.entries (p - v.server.base) ≡ Some e → slice_get v.loglet.log (p - v.loglet.cut) ≡ Some e
 
--- A carry decides its operation at once. Nothing failed, or the disk failed, and the server is down.
+-- A carry decides its operation at once. Nothing failed; or the disk failed, which counts one fault, and the server that was up is down.
 pub record IsDecidedAtOnce (old : LogletView) (t : ℕ) (new : LogletView) : Type 0 where
   pub operation : Operation
   pub is : operation_at new.operations t ≡ Some operation
   pub decided : IsDecided operation
-  pub failed : ((new.faults ≡ old.faults) × (new.down ≡ old.down)) ⊎ ((new.down ≡ 1) × RoseBy 1 old.faults new.faults)
+  pub failed : ((new.faults ≡ old.faults) × (new.down ≡ old.down)) ⊎ ((old.down ≡ 0) × (new.down ≡ 1) × (new.faults ≡ bumped old.faults))
 
 -- A begin counts a refusal as full, and that alone; it leaves the server and its disk.
 abbrev pub Counts : {U : Type 0} → FileView → Result U Refused → FileView → Type 0

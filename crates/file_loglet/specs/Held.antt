@@ -1,7 +1,8 @@
 -- The server of a file loglet: what the records of its journal spell, and its disk.
-use Rattle.std.specs.Prelude.{◌≡◌, ◌⊎◌, ℕ, ◌^◌, ◌≤◌, ◌<◌, nat_lt, Bool, true, false, not, Option, Some, None, option_map, unwrap_or, List, Result, Ok, Err}
+use Rattle.std.specs.Prelude.{◌≡◌, ◌⊎◌, ℕ, ◌^◌, ◌≤◌, ◌<◌, Bool, true, false, not, Option, Some, None, option_map, unwrap_or, List, Result, Ok, Err}
 use Rattle.std.specs.declared.alloc.AllocError.{AllocError}
-use Rattle.disk_model.specs.Disk.{DiskView, Rose}
+use Rattle.disk_model.specs.Disk.{DiskView, bumped}
+use Rattle.disk_model.specs.Armed.{Spends, TakesRecord}
 use Rattle.journal_core.specs.Journal.{View, Survives}
 use Rattle.journal_core.specs.declared.fault.Fault.{Fault}
 use Rattle.journal_core.specs.declared.fault.Fault.TheVariants.{Disk, Memory}
@@ -22,10 +23,6 @@ use Rattle.file_loglet.specs.Extents.{extent_of}
 pub record Held : Type 0 where
   pub server : Server
   pub disk : DiskView
-
--- whether the disk is to stop inside a later write
-abbrev pub is_armed : Held → Bool
-is_armed h = nat_lt 0 h.disk.armed
 
 -- the request for which a record is written; for what a compaction begins with there is none
 abbrev pub ask_by : Option Record → Ask
@@ -67,26 +64,48 @@ pub record IsHeldBy (j : View) (extent : Extent) (torn : Option Change) : Type 0
   pub tears : Tears (spelled j.records) j.torn torn
   pub survives : Survives j
 
--- a count of faults rose, or stands at its end
-abbrev pub Rises : ℕ → ℕ → Type 0
-Rises before now = (before ≤ now) × Rose before now
+-- nothing failed on the disk, and it wasn't reopened
+pub record IsCalm (old new : DiskView) : Type 0 where
+  pub faults : new.faults ≡ old.faults
+  pub word : new.word ≡ old.word
 
--- A server that is up writes for this request. Where its disk fails it is down; else the disk is armed or not as before.
+-- it failed once, and wasn't reopened
+pub record Fails (old new : DiskView) : Type 0 where
+  pub faults : new.faults ≡ bumped old.faults
+  pub word : new.word ≡ old.word
+
+-- A server that is up writes a record for this request: two writes of its disk. Where that fails it is down, and without
+-- memory one of them may have been made.
 abbrev pub Writes : {U : Type 0} → Held → Ask → Result U Fault → Held → Type 0
-Writes old ask (Ok u) new = (new.server ≡ wrote old.server ask) × (new.disk.faults ≡ old.disk.faults) × (is_armed new ≡ is_armed old)
-Writes old ask (Err Disk) new = (new.server ≡ record old.server { up = false; torn = Some ask }) × Rises old.disk.faults new.disk.faults
-Writes old ask (Err Memory) new = (new.server ≡ old.server) × (new.disk.faults ≡ old.disk.faults) × (is_armed new ≡ is_armed old)
+Writes old ask (Ok u) new = (new.server ≡ wrote old.server ask) × IsCalm old.disk new.disk × TakesRecord 0 old.disk.armed new.disk.armed
+Writes old ask (Err Disk) new = (new.server ≡ record old.server { up = false; torn = Some ask }) × Fails old.disk new.disk
+Writes old ask (Err Memory) new = (new.server ≡ old.server) × IsCalm old.disk new.disk × Spends 1 old.disk.armed new.disk.armed
 
--- a server that was down came up, with its torn write done or not, and no write of its disk is to stop
-pub record ComesUp (old new : Held) : Type 0 where
+-- a server that was down came up, its disk reopened by this word, with its torn write done or not, and no write of its disk is to stop
+pub record ComesUp (word : ℕ) (old new : Held) : Type 0 where
   pub was : old.server.up ≡ false
   pub kept : Bool
   pub server : new.server ≡ restarted old.server kept old.server.torn
   pub faults : new.disk.faults ≡ old.disk.faults
   pub disarmed : new.disk.armed ≡ 0
+  pub reopened : new.disk.word ≡ word
 
--- A restart: one that is up stays as it is. One that is down comes up; or its disk failed, or memory was wanting.
-abbrev pub Brings : Held → Result Bool AllocError → Held → Type 0
-Brings old (Ok true) new = ((old.server.up ≡ true) × (new ≡ old)) ⊎ ComesUp old new
-Brings old (Ok false) new = (old.server.up ≡ false) × (new.server ≡ old.server) × Rises old.disk.faults new.disk.faults
-Brings old (Err u) new = (old.server.up ≡ false) × (new.server ≡ old.server) × (new.disk.faults ≡ old.disk.faults)
+-- a server that was down stays so, for want of memory, its disk reopened by this word
+pub record IsReopened (word : ℕ) (old new : Held) : Type 0 where
+  pub was : old.server.up ≡ false
+  pub server : new.server ≡ old.server
+  pub faults : new.disk.faults ≡ old.disk.faults
+  pub reopened : new.disk.word ≡ word
+
+-- a server that was down stays so: its disk failed once, as it was reopened by this word or after
+pub record StaysDown (word : ℕ) (old new : Held) : Type 0 where
+  pub was : old.server.up ≡ false
+  pub server : new.server ≡ old.server
+  pub faults : new.disk.faults ≡ bumped old.disk.faults
+  pub tried : (new.disk.word ≡ word) ⊎ (new.disk.word ≡ old.disk.word)
+
+-- A restart by this word: one that is up stays as it is. One that is down comes up; or its disk failed, or memory was wanting.
+abbrev pub Brings : ℕ → Held → Result Bool AllocError → Held → Type 0
+Brings word old (Ok true) new = ((old.server.up ≡ true) × (new ≡ old)) ⊎ ComesUp word old new
+Brings word old (Ok false) new = StaysDown word old new
+Brings word old (Err u) new = IsReopened word old new

@@ -4,8 +4,7 @@ ghost use Rattle.delos_types.specs.Spelling.{IsSpellable};
 ghost use Rattle.delos_types.specs.declared.entry.Entry as given;
 ghost use Rattle.loglet_api.specs.declared.call.Answer.TheVariants.{Sealed};
 ghost use Rattle.quorum_cell.specs.Servers.{length_of, is_sealed};
-ghost use Rattle.file_loglet.specs.Held.{is_armed};
-ghost use Rattle.file_loglet.specs.Later.{IsLater, GoesOn, MayFail, Wears, is_sealing};
+ghost use Rattle.file_loglet.specs.Later.{IsLater, GoesOn, Wears, is_sealing};
 ghost use Rattle.file_loglet.specs.Pending.{Fits, told_at};
 
 use crate::pending::Pending;
@@ -24,6 +23,7 @@ use std::alloc::AllocError;
 ///
 /// Cost: an Append or a Settle writes one record for each entry that isn't stored yet, up to its
 /// length; a Seal and a Trim write at most one; a Read copies one entry.
+#[tactic(auto, using(crate::proofs::Laters::wore_same, crate::proofs::Laters::wore_on))]
 pub fn decide<D: Disk>(
     server: &mut FileServer<D>,
     entries: &[Entry],
@@ -40,12 +40,10 @@ pub fn decide<D: Disk>(
     requires cut { cut ≤ length_of server.old.server }
     requires shut { p.now.shut ≡ true → is_sealed server.old.server ≡ true }
     ensures later { IsLater entries.now cut (is_sealing p.now.task) server.old.server server.new.server }
-    ensures may_fail { MayFail server.old server.new }
-    ensures wears { Wears server.old server.new }
+    ensures wears { Wears server.old result server.new }
     ensures fits { IfOk result (Fits entries.now (length_of server.new.server) (is_sealed server.new.server) (server.new.server.up ≡ false) p.now p.now.task) }
     ensures trimmed { (n : ℕ) → p.now.task ≡ Task.Trimming n → IfOk result (λ answer. answer ≡ Answer.TrimDone → cut ≤ server.new.server.base) }
-    ensures memory { OnErr result ((server.new.server.up ≡ server.old.server.up) × (server.new.disk.faults ≡ server.old.disk.faults) × (is_sealed server.new.server ≡ is_sealed server.old.server)) }
-    ensures memory_armed { OnErr result (is_armed server.new ≡ is_armed server.old) }
+    ensures memory { OnErr result (is_sealed server.new.server ≡ is_sealed server.old.server) }
 {
     if p.is_unspoken() {
         return Ok(Answer::Beyond(p.firm));
@@ -61,6 +59,7 @@ pub fn decide<D: Disk>(
 }
 
 /// Carries an operation on a server that is up.
+#[tactic(auto, using(crate::proofs::Laters::goes_same, crate::proofs::Laters::trim_goes))]
 fn ask<D: Disk>(
     server: &mut FileServer<D>,
     entries: &[Entry],
@@ -97,6 +96,7 @@ fn ask<D: Disk>(
 }
 
 /// A server that isn't sealed stores the entries below this position, and then gives this answer.
+#[tactic(auto, using(crate::proofs::Laters::goes_same))]
 fn store<D: Disk>(
     server: &mut FileServer<D>,
     entries: &[Entry],
@@ -155,6 +155,7 @@ fn tail<D: Disk>(server: &FileServer<D>) -> Answer
 }
 
 /// Seals a server that is up, where it isn't sealed.
+#[tactic(auto, using(crate::proofs::Laters::goes_same, crate::proofs::Laters::sealed_goes))]
 fn seal<D: Disk>(server: &mut FileServer<D>) -> Result<Answer, Fault>
     requires up { server.old.server.up ≡ true }
     ensures later { (entries : List given.Entry) (cut : ℕ) → IsLater entries cut true server.old.server server.new.server }

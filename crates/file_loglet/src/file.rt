@@ -1,9 +1,10 @@
 //! A loglet of one server.
 ghost use Rattle.std.specs.Prelude.{◌≡◌, ℕ, ◌≤◌, ◌^◌, ◌⊎◌, ◌↔◌, [], Bool, true, false, IsTrue, IfOk, IfErr, if◌then◌else◌};
-ghost use Rattle.disk_model.specs.Disk.{reads, IsSynced, Rose};
+ghost use Rattle.disk_model.specs.Disk.{reads, IsSynced, bumped as disk_bumped};
+ghost use Rattle.disk_model.specs.Armed.{Spends};
 ghost use Rattle.journal_core.specs.Records.{records_of};
 ghost use Rattle.journal_core.specs.Journal.{AnyCrashLeaves};
-ghost use Rattle.loglet_api.specs.Step.{IsAppend};
+ghost use Rattle.loglet_api.specs.Step.{IsAppend, bumped};
 ghost use Rattle.loglet_api.specs.View.{IsFresh};
 ghost use Rattle.server_records.specs.Spelled.{empty_server};
 ghost use Rattle.file_loglet.specs.State.{counted};
@@ -78,12 +79,14 @@ impl<D: Disk> FileLoglet<D> {
         ensures room { IfOk result (λ made. made.loglet.room ≡ room) }
         ensures kind { IfOk result (λ made. made.loglet.kind ≡ File) }
         ensures limit { IfOk result (λ made. made.loglet.limit ≡ 2 ^ 62) }
-        ensures disk { IfOk result (λ made. (made.server ≡ empty_server) × (made.disk.faults ≡ (D.view disk).faults) × (made.disk.armed ≤ (D.view disk).armed)) }
-        ensures untold { IfOk result (λ made. (made.refusals ≡ 0) × (made.word ≡ 0)) }
+        ensures disk { IfOk result (λ made. (made.server ≡ empty_server) × (made.disk.faults ≡ (D.view disk).faults) × (made.disk.word ≡ (D.view disk).word)) }
+        ensures spends { IfOk result (λ made. Spends 1 (D.view disk).armed made.disk.armed) }
+        ensures unasked { IfOk result (λ made. (made.refusals ≡ 0) × (made.asked ≡ record { told = 0; carries = 0; strays = 0; stops = 0; restarts = 0 })) }
 
         // Why the disk came back, and that it is as good as before, or failed.
         ensures memory { IfErr result (λ e. e.fault ≡ Fault.Memory → ((D.view e.disk).timeline ≡ (D.view disk).timeline) × ((D.view e.disk).faults ≡ (D.view disk).faults)) }
-        ensures failed { IfErr result (λ e. e.fault ≡ Fault.Disk → Rose (D.view disk).faults (D.view e.disk).faults) }
+        ensures failed { IfErr result (λ e. e.fault ≡ Fault.Disk → (D.view e.disk).faults ≡ disk_bumped (D.view disk).faults) }
+        ensures word_refused { IfErr result (λ e. (D.view e.disk).word ≡ (D.view disk).word) }
         ensures any_crash { IfErr result (λ e. AnyCrashLeaves (D.view disk) (D.view e.disk) (λ found. found ≡ [])) }
     {
         let server = FileServer::new(alloc, disk)?;
@@ -197,8 +200,8 @@ impl<D: Disk> Loglet for FileLoglet<D> {
         ensures serves { Serves (serving_of self.old) (LogletCall.Carry ticket word) (carry_answer result) (serving_of self.new) }
         ensures at_once { OnOk result (IsDecidedAtOnce self.old.loglet ticket self.new.loglet) }
 
-        // Its disk counted nothing, or failed; it is no refusal.
-        ensures wears { Wears (held_in self.old) (held_in self.new) }
+        // The disk counts each record that was written, or failed once; it is no refusal.
+        ensures wears { Wears (held_in self.old) result (held_in self.new) }
         ensures refusals { self.new.refusals ≡ self.old.refusals }
     {
         let number = ticket.number();
@@ -211,7 +214,7 @@ impl<D: Disk> Loglet for FileLoglet<D> {
             return Err(Refused::Memory);
         };
         set_answer(&mut self.pending, number, answer);
-        self.marks = self.marks.given(word);
+        self.marks = self.marks.carried(word);
         Ok(())
     }
 
@@ -243,9 +246,9 @@ impl<D: Disk> Loglet for FileLoglet<D> {
     fn stray(&mut self, word: u64) -> Result<(), Refused>
         ensures step { LogletStep self.old.loglet (LogletCall.Stray word) (stray_answer result) self.new.loglet }
         ensures serves { Serves (serving_of self.old) (LogletCall.Stray word) (stray_answer result) (serving_of self.new) }
-        ensures kept { self.new ≡ record self.old { word = word } }
+        ensures kept { self.new ≡ record self.old { asked = record self.old.asked { told = word; strays = bumped self.old.asked.strays } } }
     {
-        let marks = self.marks.given(word);
+        let marks = self.marks.strayed(word);
         self.marks = marks;
         Ok(())
     }
@@ -254,10 +257,10 @@ impl<D: Disk> Loglet for FileLoglet<D> {
         requires { CanCall self.old.loglet (LogletCall.Stop server after) }
         ensures step { LogletStep self.old.loglet (LogletCall.Stop server after) LogletAnswer.Stopped self.new.loglet }
         ensures serves { Serves (serving_of self.old) (LogletCall.Stop server after) LogletAnswer.Stopped (serving_of self.new) }
-        ensures arms { self.new ≡ record self.old { disk = (if self.old.disk.stopped then self.old.disk else record self.old.disk { armed = after }); word = after } }
+        ensures arms { self.new ≡ record self.old { disk = (if self.old.disk.stopped then self.old.disk else record self.old.disk { armed = after }); asked = record self.old.asked { stops = bumped self.old.asked.stops } } }
     {
         self.server.stop(after);
-        self.marks = self.marks.given(after);
+        self.marks = self.marks.stopped();
     }
 
     fn restart(&mut self, server: u32, word: u64) -> Result<bool, Refused>
@@ -268,19 +271,19 @@ impl<D: Disk> Loglet for FileLoglet<D> {
 
         // It comes up with the write done or not in which its disk failed.
         ensures restarted { self.old.server.up ≡ false → IfOk result (λ up. up ≡ true → (kept : Bool) × (self.new.server ≡ restarted self.old.server kept self.old.server.torn)) }
-        ensures idle { self.old.server.up ≡ true → self.new ≡ record self.old { word = word } }
+        ensures idle { self.old.server.up ≡ true → self.new ≡ record self.old { asked = record self.old.asked { restarts = bumped self.old.asked.restarts } } }
     {
         let Ok(up) = bring_up(&mut self.server, word) else {
             return Err(Refused::Memory);
         };
-        self.marks = self.marks.given(word);
+        self.marks = self.marks.restarted();
         Ok(up)
     }
 }
 
 /// Restarts a server that is down, and says whether it is up.
 fn bring_up<D: Disk>(server: &mut FileServer<D>, word: u64) -> Result<bool, AllocError>
-    ensures { Brings server.old result server.new }
+    ensures { Brings word server.old result server.new }
 {
     if server.is_up() {
         return Ok(true);

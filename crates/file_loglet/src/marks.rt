@@ -1,8 +1,19 @@
 //! What a loglet has told and counted.
-ghost use Rattle.std.specs.Prelude.{◌≡◌, ◌+◌, ◌-◌, ◌^◌, ◌<◌, min, max, None};
-ghost use Rattle.loglet_api.specs.Step.{cut_by, seals_of, told_reach, told_firm, told_cap, told_lacks};
+ghost use Rattle.std.specs.Prelude.{◌≡◌, ◌+◌, ◌-◌, ◌^◌, ◌<◌, max, None};
+ghost use Rattle.loglet_api.specs.Step.{bumped, cut_by, seals_of, told_reach, told_firm, told_cap, told_lacks};
 
 use loglet_api::call::{Answer, Op};
+
+/// The word of the last carry or stray that was done, and how often each call was made that goes to the server. A count
+/// stands still at 2^64 - 1.
+#[derive(Clone, Copy, Debug)]
+pub struct Asked {
+    pub told: u64,
+    pub carries: u64,
+    pub strays: u64,
+    pub stops: u64,
+    pub restarts: u64,
+}
 
 /// What a loglet has told and counted.
 #[derive(Clone, Copy, Debug)]
@@ -23,14 +34,14 @@ pub struct Marks {
     pub lacks: u64,
     /// How many operations were refused as `Full`; it stands still at 2^64 - 1.
     pub refusals: u64,
-    /// The word or count of the last carry, stray, stop or restart that was done.
-    pub word: u64,
+    /// What was asked of the server.
+    pub asked: Asked,
 }
 
 impl Marks {
     /// Nothing was asked yet.
     pub fn new() -> Marks
-        ensures { result ≡ record { cut = 0; reach = 0; firm = 0; cap = None; begun = 0; seals = 0; lacks = 0; refusals = 0; word = 0 } }
+        ensures { result ≡ record { cut = 0; reach = 0; firm = 0; cap = None; begun = 0; seals = 0; lacks = 0; refusals = 0; asked = record { told = 0; carries = 0; strays = 0; stops = 0; restarts = 0 } } }
     {
         Marks {
             cut: 0,
@@ -41,7 +52,13 @@ impl Marks {
             seals: 0,
             lacks: 0,
             refusals: 0,
-            word: 0,
+            asked: Asked {
+                told: 0,
+                carries: 0,
+                strays: 0,
+                stops: 0,
+                restarts: 0,
+            },
         }
     }
 
@@ -61,7 +78,7 @@ impl Marks {
 
     /// Once an operation is refused as full.
     pub fn refused(self) -> Marks
-        ensures { result ≡ record self { refusals = min (self.refusals + 1) (2 ^ 64 - 1) } }
+        ensures { result ≡ record self { refusals = bumped self.refusals } }
     {
         Marks {
             refusals: self.refusals.saturating_add(1),
@@ -69,11 +86,58 @@ impl Marks {
         }
     }
 
-    /// Once a call was done that has this word or count.
-    pub fn given(self, word: u64) -> Marks
-        ensures { result ≡ record self { word = word } }
+    /// Once an operation was carried by this word.
+    pub fn carried(self, word: u64) -> Marks
+        ensures { result ≡ record self { asked = record self.asked { told = word; carries = bumped self.asked.carries } } }
     {
-        Marks { word, ..self }
+        Marks {
+            asked: Asked {
+                told: word,
+                carries: self.asked.carries.saturating_add(1),
+                ..self.asked
+            },
+            ..self
+        }
+    }
+
+    /// Once a message was to go again by this word.
+    pub fn strayed(self, word: u64) -> Marks
+        ensures { result ≡ record self { asked = record self.asked { told = word; strays = bumped self.asked.strays } } }
+    {
+        Marks {
+            asked: Asked {
+                told: word,
+                strays: self.asked.strays.saturating_add(1),
+                ..self.asked
+            },
+            ..self
+        }
+    }
+
+    /// Once the server was to stop.
+    pub fn stopped(self) -> Marks
+        ensures { result ≡ record self { asked = record self.asked { stops = bumped self.asked.stops } } }
+    {
+        Marks {
+            asked: Asked {
+                stops: self.asked.stops.saturating_add(1),
+                ..self.asked
+            },
+            ..self
+        }
+    }
+
+    /// Once a restart was answered, whether the server came up or not.
+    pub fn restarted(self) -> Marks
+        ensures { result ≡ record self { asked = record self.asked { restarts = bumped self.asked.restarts } } }
+    {
+        Marks {
+            asked: Asked {
+                restarts: self.asked.restarts.saturating_add(1),
+                ..self.asked
+            },
+            ..self
+        }
     }
 
     /// Once an answer is given to an operation that speaks of this length.

@@ -1,13 +1,14 @@
 //! The server of a file loglet.
 ghost use Rattle.std.specs.Prelude.{◌≡◌, ℕ, Bool, true, false, ◌^◌, ◌<◌, ◌≤◌, IfOk, IfErr, OnOk, IsOk, IsErrOf, [], if◌then◌else◌};
 ghost use Rattle.delos_types.specs.Spelling.{IsSpellable};
-ghost use Rattle.disk_model.specs.Disk.{reads, IsSynced, Rose};
+ghost use Rattle.disk_model.specs.Disk.{reads, IsSynced, bumped};
+ghost use Rattle.disk_model.specs.Armed.{Spends};
 ghost use Rattle.journal_core.specs.Records.{records_of};
 ghost use Rattle.journal_core.specs.Journal.{AnyCrashLeaves, LeavesRecords};
 ghost use Rattle.quorum_cell.specs.declared.message.Ask.TheVariants.{Store, Seal, Trim};
 ghost use Rattle.quorum_cell.specs.Servers.{length_of, is_sealed, writes, restarted};
 ghost use Rattle.server_records.specs.Spelled.{empty_server, server_of};
-ghost use Rattle.file_loglet.specs.Held.{ask_of, Changes, Writes, Rises};
+ghost use Rattle.file_loglet.specs.Held.{ask_of, Changes, Writes, IsReopened, StaysDown};
 
 use crate::extent::{Change, Extent};
 use delos_types::entry::Entry;
@@ -51,9 +52,11 @@ impl<D: Disk> FileServer<D> {
         requires empty { records_of (reads (D.view disk)) ≡ [] }
         ensures empty { IfOk result (λ s. s.server ≡ empty_server) }
         ensures no_fault { IfOk result (λ s. s.disk.faults ≡ (D.view disk).faults) }
-        ensures armed { IfOk result (λ s. s.disk.armed ≤ (D.view disk).armed) }
+        ensures word { IfOk result (λ s. s.disk.word ≡ (D.view disk).word) }
+        ensures spends { IfOk result (λ s. Spends 1 (D.view disk).armed s.disk.armed) }
         ensures memory { IfErr result (λ e. e.fault ≡ Fault.Memory → ((D.view e.disk).timeline ≡ (D.view disk).timeline) × ((D.view e.disk).faults ≡ (D.view disk).faults)) }
-        ensures failed { IfErr result (λ e. e.fault ≡ Fault.Disk → Rose (D.view disk).faults (D.view e.disk).faults) }
+        ensures failed { IfErr result (λ e. e.fault ≡ Fault.Disk → (D.view e.disk).faults ≡ bumped (D.view disk).faults) }
+        ensures word_refused { IfErr result (λ e. (D.view e.disk).word ≡ (D.view disk).word) }
         ensures any_crash { IfErr result (λ e. AnyCrashLeaves (D.view disk) (D.view e.disk) (λ found. found ≡ [])) }
     {
         let journal = Journal::open_on(alloc, disk)?.journal;
@@ -156,14 +159,15 @@ impl<D: Disk> FileServer<D> {
         }
     }
 
-    /// Brings up a server that is down. The word may pick whether the torn write was done.
+    /// Brings up a server that is down. Its disk is reopened by the word, which may pick whether the torn write was done.
     pub fn restart(&mut self, word: u64) -> Result<(), Fault>
         requires down { self.old.server.up ≡ false }
         ensures ok { OnOk result ((kept : Bool) × (self.new.server ≡ restarted self.old.server kept self.old.server.torn)) }
         ensures no_fault { OnOk result (self.new.disk.faults ≡ self.old.disk.faults) }
         ensures disarmed { OnOk result (self.new.disk.armed ≡ 0) }
-        ensures memory { IsErrOf result Fault.Memory → (self.new.server ≡ self.old.server) × (self.new.disk.faults ≡ self.old.disk.faults) }
-        ensures failed { IsErrOf result Fault.Disk → (self.new.server ≡ self.old.server) × Rises self.old.disk.faults self.new.disk.faults }
+        ensures word { OnOk result (self.new.disk.word ≡ word) }
+        ensures memory { IsErrOf result Fault.Memory → IsReopened word self.old self.new }
+        ensures failed { IsErrOf result Fault.Disk → StaysDown word self.old self.new }
     {
         let count = self.journal.count();
         self.journal.reopen(word)?;

@@ -10,9 +10,12 @@ register_of r = record {
   given = r.given;
   given_chain = r.given_chain;
   asked = None;
+  stands = false;
   down = r.down;
   faults = r.faults;
   misses = r.misses;
-  armed = false;
-  told = 0;
+  armed = 0;
+  word = 0;
+  stops = 0;
+  reopenings = 0;
 }

@@ -1,6 +1,6 @@
 //! Gates and records in the bytes of a disk, wherever they lie: for journals that share a disk with something else.
 ghost use Rattle.std.specs.Prelude.{◌≡◌, ◌≢◌, ◌+◌, ◌^◌, ◌<◌, ◌≤◌, ℕ, Some, None, true, false, [], length, take, drop, slice_index, slice_index_or, IfOk, IfSome, OnOk, OnErr, IsErrOf, MatchOption};
-ghost use Rattle.disk_model.specs.Disk.{reads, Rose};
+ghost use Rattle.disk_model.specs.Disk.{reads, bumped};
 ghost use Rattle.journal_core.specs.Records.{first_record, records_of, payloads};
 ghost use Rattle.journal_core.specs.Layout.{IsEnd, framed};
 
@@ -29,7 +29,7 @@ pub fn frame(alloc: Global, payload: &[u8]) -> Result<Vec<u8>, AllocError>
     Ok(bytes)
 }
 
-/// All records from a base on, and how many bytes behind it they end. `Disk` comes only where the disk's faults rose.
+/// All records from a base on, and how many bytes behind it they end. `Disk` comes with just one fault of the disk.
 ///
 /// Cost: three reads a record, and one more.
 pub fn read_records<D: Disk>(
@@ -44,11 +44,12 @@ pub fn read_records<D: Disk>(
     ensures ends { IfOk result (λ r. IsEnd r.1 (drop base (reads (D.view disk.old)))) }
     ensures fits { IfOk result (λ r. base + r.1 + 1 < 2 ^ 64) }
     ensures same { (D.view disk.new).timeline ≡ (D.view disk.old).timeline }
-    ensures failed { IsErrOf result Fault.Disk → Rose (D.view disk.old).faults (D.view disk.new).faults }
+    ensures failed { IsErrOf result Fault.Disk → (D.view disk.new).faults ≡ bumped (D.view disk.old).faults }
     ensures faults { (D.view disk.old).faults ≤ (D.view disk.new).faults }
     ensures no_fault { OnOk result ((D.view disk.new).faults ≡ (D.view disk.old).faults) }
     ensures no_fault_memory { IsErrOf result Fault.Memory → (D.view disk.new).faults ≡ (D.view disk.old).faults }
     ensures state { ((D.view disk.new).stopped ≡ (D.view disk.old).stopped) × ((D.view disk.new).armed ≡ (D.view disk.old).armed) }
+    ensures word { (D.view disk.new).word ≡ (D.view disk.old).word }
 {
     let mut found = Vec::new(alloc);
     let mut end = 0;
@@ -59,8 +60,8 @@ pub fn read_records<D: Disk>(
     Ok((found, end))
 }
 
-/// How many records there are from a base on, and how many bytes behind it they end. `Failed` comes only where the disk's
-/// faults rose.
+/// How many records there are from a base on, and how many bytes behind it they end. `Failed` comes with just one fault
+/// of the disk.
 ///
 /// Cost: two reads of nine bytes in all for each record, and one or two more. It takes no memory.
 pub fn count_records<D: Disk>(disk: &mut D, base: u64) -> Result<(usize, u64), Failed>
@@ -71,10 +72,11 @@ pub fn count_records<D: Disk>(disk: &mut D, base: u64) -> Result<(usize, u64), F
     ensures ends { IfOk result (λ r. IsEnd r.1 (drop base (reads (D.view disk.old)))) }
     ensures fits { IfOk result (λ r. base + r.1 + 1 < 2 ^ 64) }
     ensures same { (D.view disk.new).timeline ≡ (D.view disk.old).timeline }
-    ensures failed { OnErr result (Rose (D.view disk.old).faults (D.view disk.new).faults) }
+    ensures failed { OnErr result ((D.view disk.new).faults ≡ bumped (D.view disk.old).faults) }
     ensures faults { (D.view disk.old).faults ≤ (D.view disk.new).faults }
     ensures no_fault { OnOk result ((D.view disk.new).faults ≡ (D.view disk.old).faults) }
     ensures state { ((D.view disk.new).stopped ≡ (D.view disk.old).stopped) × ((D.view disk.new).armed ≡ (D.view disk.old).armed) }
+    ensures word { (D.view disk.new).word ≡ (D.view disk.old).word }
 {
     let mut count = 0;
     let mut end = 0;
@@ -85,7 +87,7 @@ pub fn count_records<D: Disk>(disk: &mut D, base: u64) -> Result<(usize, u64), F
     Ok((count, end))
 }
 
-/// The i-th record from a base on, from 0 on. `Disk` comes only where the disk's faults rose.
+/// The i-th record from a base on, from 0 on. `Disk` comes with just one fault of the disk.
 ///
 /// Cost: two reads of nine bytes in all for each record before it, and three for it.
 pub fn record_at<D: Disk>(
@@ -98,11 +100,12 @@ pub fn record_at<D: Disk>(
     requires there { i < length (records_of (drop base (reads (D.view disk.old)))) }
     ensures record { IfOk result (λ v. v.items ≡ slice_index_or (records_of (drop base (reads (D.view disk.old)))) i []) }
     ensures same { (D.view disk.new).timeline ≡ (D.view disk.old).timeline }
-    ensures failed { IsErrOf result Fault.Disk → Rose (D.view disk.old).faults (D.view disk.new).faults }
+    ensures failed { IsErrOf result Fault.Disk → (D.view disk.new).faults ≡ bumped (D.view disk.old).faults }
     ensures faults { (D.view disk.old).faults ≤ (D.view disk.new).faults }
     ensures no_fault { OnOk result ((D.view disk.new).faults ≡ (D.view disk.old).faults) }
     ensures no_fault_memory { IsErrOf result Fault.Memory → (D.view disk.new).faults ≡ (D.view disk.old).faults }
     ensures state { ((D.view disk.new).stopped ≡ (D.view disk.old).stopped) × ((D.view disk.new).armed ≡ (D.view disk.old).armed) }
+    ensures word { (D.view disk.new).word ≡ (D.view disk.old).word }
 {
     let mut place = base;
     for _before in 0..i {
@@ -124,11 +127,12 @@ fn read_record<D: Disk>(alloc: Global, disk: &mut D, at: u64) -> Result<Option<V
     ensures inside { IfOk result (λ o. IfSome o (λ v. at + (10 + length v.items) ≤ length (reads (D.view disk.old)))) }
     ensures fits { IfOk result (λ o. IfSome o (λ v. at + (10 + length v.items) < 2 ^ 64)) }
     ensures same { (D.view disk.new).timeline ≡ (D.view disk.old).timeline }
-    ensures failed { IsErrOf result Fault.Disk → Rose (D.view disk.old).faults (D.view disk.new).faults }
+    ensures failed { IsErrOf result Fault.Disk → (D.view disk.new).faults ≡ bumped (D.view disk.old).faults }
     ensures faults { (D.view disk.old).faults ≤ (D.view disk.new).faults }
     ensures no_fault { OnOk result ((D.view disk.new).faults ≡ (D.view disk.old).faults) }
     ensures no_fault_memory { IsErrOf result Fault.Memory → (D.view disk.new).faults ≡ (D.view disk.old).faults }
     ensures state { ((D.view disk.new).stopped ≡ (D.view disk.old).stopped) × ((D.view disk.new).armed ≡ (D.view disk.old).armed) }
+    ensures word { (D.view disk.new).word ≡ (D.view disk.old).word }
 {
     let Some(size) = size_at(disk, at)? else {
         return Ok(None);
@@ -145,10 +149,11 @@ fn size_at<D: Disk>(disk: &mut D, at: u64) -> Result<Option<u64>, Failed>
     ensures inside { IfOk result (λ o. IfSome o (λ n. at + (10 + n) ≤ length (reads (D.view disk.old)))) }
     ensures fits { IfOk result (λ o. IfSome o (λ n. at + (10 + n) < 2 ^ 64)) }
     ensures same { (D.view disk.new).timeline ≡ (D.view disk.old).timeline }
-    ensures failed { OnErr result (Rose (D.view disk.old).faults (D.view disk.new).faults) }
+    ensures failed { OnErr result ((D.view disk.new).faults ≡ bumped (D.view disk.old).faults) }
     ensures faults { (D.view disk.old).faults ≤ (D.view disk.new).faults }
     ensures no_fault { OnOk result ((D.view disk.new).faults ≡ (D.view disk.old).faults) }
     ensures state { ((D.view disk.new).stopped ≡ (D.view disk.old).stopped) × ((D.view disk.new).armed ≡ (D.view disk.old).armed) }
+    ensures word { (D.view disk.new).word ≡ (D.view disk.old).word }
 {
     let left = disk.len() - at;
     if left < OVERHEAD + 1 {
@@ -173,11 +178,12 @@ fn payload_at<D: Disk>(alloc: Global, disk: &mut D, at: u64, size: u64) -> Resul
     requires { at + size ≤ length (reads (D.view disk.old)) }
     ensures bytes { IfOk result (λ v. v.items ≡ take size (drop at (reads (D.view disk.old)))) }
     ensures same { (D.view disk.new).timeline ≡ (D.view disk.old).timeline }
-    ensures failed { IsErrOf result Fault.Disk → Rose (D.view disk.old).faults (D.view disk.new).faults }
+    ensures failed { IsErrOf result Fault.Disk → (D.view disk.new).faults ≡ bumped (D.view disk.old).faults }
     ensures faults { (D.view disk.old).faults ≤ (D.view disk.new).faults }
     ensures no_fault { OnOk result ((D.view disk.new).faults ≡ (D.view disk.old).faults) }
     ensures no_fault_memory { IsErrOf result Fault.Memory → (D.view disk.new).faults ≡ (D.view disk.old).faults }
     ensures state { ((D.view disk.new).stopped ≡ (D.view disk.old).stopped) × ((D.view disk.new).armed ≡ (D.view disk.old).armed) }
+    ensures word { (D.view disk.new).word ≡ (D.view disk.old).word }
 {
     let mut payload = Vec::new(alloc);
     payload.resize(size as usize, 0)?;
@@ -185,17 +191,18 @@ fn payload_at<D: Disk>(alloc: Global, disk: &mut D, at: u64, size: u64) -> Resul
     Ok(payload)
 }
 
-/// The gate where the records end isn't there, or isn't closed. `Failed` comes only where the disk's faults rose. Cost: one
+/// The gate where the records end isn't there, or isn't closed. `Failed` comes with just one fault of the disk. Cost: one
 /// read of a byte at most.
 pub fn gate_is_open<D: Disk>(disk: &mut D, end: u64) -> Result<bool, Failed>
     requires { end ≤ length (reads (D.view disk.old)) }
     ensures closed { IfOk result (λ b. b ≡ false → (end < length (reads (D.view disk.old))) × (slice_index (reads (D.view disk.old)) end ≢ 1)) }
     ensures opened { IfOk result (λ b. b ≡ true → end < length (reads (D.view disk.old)) → slice_index (reads (D.view disk.old)) end ≡ 1) }
     ensures same { (D.view disk.new).timeline ≡ (D.view disk.old).timeline }
-    ensures failed { OnErr result (Rose (D.view disk.old).faults (D.view disk.new).faults) }
+    ensures failed { OnErr result ((D.view disk.new).faults ≡ bumped (D.view disk.old).faults) }
     ensures faults { (D.view disk.old).faults ≤ (D.view disk.new).faults }
     ensures no_fault { OnOk result ((D.view disk.new).faults ≡ (D.view disk.old).faults) }
     ensures state { ((D.view disk.new).stopped ≡ (D.view disk.old).stopped) × ((D.view disk.new).armed ≡ (D.view disk.old).armed) }
+    ensures word { (D.view disk.new).word ≡ (D.view disk.old).word }
     ensures running { IfOk result (λ b. b ≡ false → (D.view disk.old).stopped ≡ false) }
 {
     if end == disk.len() {

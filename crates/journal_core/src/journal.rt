@@ -1,6 +1,7 @@
 // A journal: records on a disk, and in memory beside it how many they are.
-ghost use Rattle.std.specs.Prelude.{◌≡◌, ◌≢◌, ◌⊎◌, ◌+◌, ◌-◌, ◌^◌, ◌<◌, ◌≤◌, ◌↔◌, ℕ, Some, None, [], ◌∷◌, ◌++◌, length, nat_lt, true, false, if◌then◌else◌, IfOk, IfErr, OnOk, OnErr, IsErrOf, slice_index_or};
-ghost use Rattle.disk_model.specs.Disk.{DiskView, reads, IsSynced, Rose};
+ghost use Rattle.std.specs.Prelude.{◌≡◌, ◌≢◌, ◌⊎◌, ◌+◌, ◌-◌, ◌^◌, ◌<◌, ◌≤◌, ◌↔◌, ℕ, Some, None, [], ◌∷◌, ◌++◌, length, true, false, if◌then◌else◌, IfOk, IfErr, OnOk, OnErr, IsErrOf, slice_index_or};
+ghost use Rattle.disk_model.specs.Disk.{DiskView, reads, IsSynced, bumped};
+ghost use Rattle.disk_model.specs.Armed.{Spends, TakesRecord};
 ghost use Rattle.journal_core.specs.Records.{records_of, payloads};
 ghost use Rattle.journal_core.specs.Journal.{View, MayFind, LeavesRecords, AnyCrashLeaves, Survives};
 
@@ -65,18 +66,18 @@ impl<D: Disk> Journal<D> {
         ensures survives { IfOk result (λ o. Survives o.journal) }
         ensures any_crash { IfOk result (λ o. AnyCrashLeaves (D.view disk) o.journal.disk (λ found. found ≡ records_of (reads (D.view disk)))) }
         ensures no_fault { IfOk result (λ o. o.journal.disk.faults ≡ (D.view disk).faults) }
-        ensures armed { IfOk result (λ o. o.journal.disk.armed ≤ (D.view disk).armed) }
+        ensures word { IfOk result (λ o. o.journal.disk.word ≡ (D.view disk).word) }
 
         // At most one write was made: it is armed where it was, and one that fails may have reached the armed write.
-        ensures one_write { IfOk result (λ o. (o.journal.disk.armed ≡ (D.view disk).armed) ⊎ (((D.view disk).armed ≢ 1) × (o.journal.disk.armed ≡ (D.view disk).armed - 1))) }
-        ensures still_armed { IfOk result (λ o. nat_lt 0 o.journal.disk.armed ≡ nat_lt 0 (D.view disk).armed) }
+        ensures spends { IfOk result (λ o. Spends 1 (D.view disk).armed o.journal.disk.armed) }
         ensures one_write_refused { IfErr result (λ e. ((D.view e.disk).armed ≡ (D.view disk).armed) ⊎ ((D.view e.disk).armed ≡ (D.view disk).armed - 1)) }
         ensures memory_state { IfErr result (λ e. e.fault ≡ Fault.Memory → ((D.view e.disk).stopped ≡ (D.view disk).stopped) × ((D.view e.disk).armed ≡ (D.view disk).armed)) }
 
         // A disk that is handed back has the same records, and failed where that is said.
         ensures memory { IfErr result (λ e. e.fault ≡ Fault.Memory → ((D.view e.disk).timeline ≡ (D.view disk).timeline) × ((D.view e.disk).faults ≡ (D.view disk).faults)) }
-        ensures failed { IfErr result (λ e. e.fault ≡ Fault.Disk → Rose (D.view disk).faults (D.view e.disk).faults) }
+        ensures failed { IfErr result (λ e. e.fault ≡ Fault.Disk → (D.view e.disk).faults ≡ bumped (D.view disk).faults) }
         ensures any_crash_refused { IfErr result (λ e. AnyCrashLeaves (D.view disk) (D.view e.disk) (λ found. found ≡ records_of (reads (D.view disk)))) }
+        ensures word_refused { IfErr result (λ e. (D.view e.disk).word ≡ (D.view disk).word) }
         ensures faults_refused { IfErr result (λ e. (D.view disk).faults ≤ (D.view e.disk).faults) }
         ensures armed_refused { IfErr result (λ e. (D.view e.disk).armed ≤ (D.view disk).armed) }
     {
@@ -128,7 +129,7 @@ impl<D: Disk> Journal<D> {
         ensures shut { IsErrOf result AppendFault.Shut ↔ (self.old.shut ≡ true) }
         ensures shut_same { IsErrOf result AppendFault.Shut → self.new ≡ self.old }
         ensures memory { IsErrOf result AppendFault.Memory → (self.new ≡ record self.old { disk = self.new.disk }) × (self.new.disk.faults ≡ self.old.disk.faults) }
-        ensures disk { IsErrOf result AppendFault.Disk → (self.new ≡ record self.old { torn = Some payload.now; shut = true; disk = self.new.disk }) × Rose self.old.disk.faults self.new.disk.faults }
+        ensures disk { IsErrOf result AppendFault.Disk → (self.new ≡ record self.old { torn = Some payload.now; shut = true; disk = self.new.disk }) × (self.new.disk.faults ≡ bumped self.old.disk.faults) }
 
         // A crash inside it leaves what one before it may leave, with the new record or without.
         ensures any_crash { AnyCrashLeaves self.old.disk self.new.disk (λ found. MayFind self.old found ⊎ (found ≡ self.old.records ++ payload.now ∷ [])) }
@@ -137,10 +138,10 @@ impl<D: Disk> Journal<D> {
         ensures no_fault { OnOk result (self.new.disk.faults ≡ self.old.disk.faults) }
         ensures armed { self.new.disk.armed ≤ self.old.disk.armed }
 
-        // It is two of the writes that an armed disk counts.
-        ensures counted { OnOk result ((self.old.disk.armed ≢ 1) × (self.old.disk.armed ≢ 2) × (self.new.disk.armed ≡ self.old.disk.armed - 2)) }
-        ensures still_armed { IsErrOf result AppendFault.Memory → nat_lt 0 self.new.disk.armed ≡ nat_lt 0 self.old.disk.armed }
-        ensures ok_armed { OnOk result (nat_lt 0 self.new.disk.armed ≡ nat_lt 0 self.old.disk.armed) }
+        // It is two of the writes that an armed disk counts, and one at most where memory doesn't suffice.
+        ensures counted { OnOk result (TakesRecord 0 self.old.disk.armed self.new.disk.armed) }
+        ensures spends_memory { IsErrOf result AppendFault.Memory → Spends 1 self.old.disk.armed self.new.disk.armed }
+        ensures word { self.new.disk.word ≡ self.old.disk.word }
     {
         if self.shut {
             return Err(AppendFault::Shut);
@@ -171,7 +172,7 @@ impl<D: Disk> Journal<D> {
         ensures durable { OnOk result (LeavesRecords self.new.disk (λ found. found ≡ self.new.records)) }
         ensures same { self.old.shut ≡ false → OnOk result (self.new.records ≡ self.old.records) }
         ensures memory { IsErrOf result Fault.Memory → (self.new ≡ record self.old { disk = self.new.disk }) × (self.new.disk.faults ≡ self.old.disk.faults) }
-        ensures disk { IsErrOf result Fault.Disk → (self.new ≡ record self.old { shut = true; disk = self.new.disk }) × Rose self.old.disk.faults self.new.disk.faults }
+        ensures disk { IsErrOf result Fault.Disk → (self.new ≡ record self.old { shut = true; disk = self.new.disk }) × (self.new.disk.faults ≡ bumped self.old.disk.faults) }
 
         // A crash inside it leaves what one before it may leave.
         ensures any_crash { AnyCrashLeaves self.old.disk self.new.disk (MayFind self.old) }
@@ -184,6 +185,11 @@ impl<D: Disk> Journal<D> {
         ensures disarmed { OnOk result (self.new.disk.armed ≡ 0) }
         ensures disarmed_memory { IsErrOf result Fault.Memory → (self.new.disk.armed ≡ 0) × (self.new.disk.stopped ≡ false) }
         ensures disarmed_or_same { IsErrOf result Fault.Disk → (self.new.disk.armed ≡ 0) ⊎ ((self.new.disk.armed ≡ self.old.disk.armed) × (self.new.disk.stopped ≡ self.old.disk.stopped)) }
+
+        // The disk is opened by this word, unless it refused.
+        ensures word { OnOk result (self.new.disk.word ≡ word) }
+        ensures word_memory { IsErrOf result Fault.Memory → self.new.disk.word ≡ word }
+        ensures word_disk { IsErrOf result Fault.Disk → (self.new.disk.word ≡ word) ⊎ (self.new.disk.word ≡ self.old.disk.word) }
     {
         if self.disk.reopen(word).is_err() {
             self.shut = true;
@@ -221,7 +227,7 @@ impl<D: Disk> Journal<D> {
         requires { i < length self.old.records }
         ensures record { IfOk result (λ v. v.items ≡ slice_index_or self.old.records i []) }
         ensures same { self.new ≡ record self.old { disk = record self.old.disk { faults = self.new.disk.faults } } }
-        ensures failed { IsErrOf result Fault.Disk → Rose self.old.disk.faults self.new.disk.faults }
+        ensures failed { IsErrOf result Fault.Disk → self.new.disk.faults ≡ bumped self.old.disk.faults }
         ensures no_fault { OnOk result (self.new.disk.faults ≡ self.old.disk.faults) }
         ensures no_fault_memory { IsErrOf result Fault.Memory → self.new.disk.faults ≡ self.old.disk.faults }
         ensures survives { Survives self.new }

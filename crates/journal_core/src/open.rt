@@ -1,6 +1,7 @@
 // Counts the records of a disk, and closes the gate where they end.
 ghost use Rattle.std.specs.Prelude.{◌≡◌, ◌≢◌, ◌⊎◌, ◌+◌, ◌-◌, ◌^◌, ◌<◌, ◌≤◌, ℕ, false, length, slice_index, IfOk, OnOk, IsErrOf};
-ghost use Rattle.disk_model.specs.Disk.{reads, IsSynced, Rose};
+ghost use Rattle.disk_model.specs.Disk.{reads, IsSynced, bumped};
+ghost use Rattle.disk_model.specs.Armed.{Spends};
 ghost use Rattle.disk_model.specs.Crash.{AnyCrash};
 ghost use Rattle.journal_core.specs.Records.{records_of};
 ghost use Rattle.journal_core.specs.Layout.{EndsAt, IsEnd};
@@ -20,10 +21,11 @@ pub(crate) fn scan<D: Disk>(disk: &mut D) -> Result<(usize, u64), Fault>
     ensures synced { OnOk result (IsSynced (D.view disk.new)) }
     ensures any_crash { AnyCrash (D.view disk.old).timeline (D.view disk.new).timeline (λ bytes. records_of bytes ≡ records_of (reads (D.view disk.old))) }
     ensures memory { IsErrOf result Fault.Memory → (D.view disk.new).timeline ≡ (D.view disk.old).timeline }
-    ensures failed { IsErrOf result Fault.Disk → Rose (D.view disk.old).faults (D.view disk.new).faults }
+    ensures failed { IsErrOf result Fault.Disk → (D.view disk.new).faults ≡ bumped (D.view disk.old).faults }
     ensures faults { (D.view disk.old).faults ≤ (D.view disk.new).faults }
     ensures no_fault { OnOk result ((D.view disk.new).faults ≡ (D.view disk.old).faults) }
     ensures no_fault_memory { IsErrOf result Fault.Memory → (D.view disk.new).faults ≡ (D.view disk.old).faults }
+    ensures word { (D.view disk.new).word ≡ (D.view disk.old).word }
     ensures armed { (D.view disk.new).armed ≤ (D.view disk.old).armed }
     ensures running { OnOk result ((D.view disk.new).stopped ≡ false) }
     ensures memory_state { IsErrOf result Fault.Memory → ((D.view disk.new).stopped ≡ (D.view disk.old).stopped) × ((D.view disk.new).armed ≡ (D.view disk.old).armed) }
@@ -42,15 +44,16 @@ pub(crate) fn close_end<D: Disk>(disk: &mut D, end: u64) -> Result<(), Fault>
     ensures synced { OnOk result (IsSynced (D.view disk.new)) }
     ensures any_crash { AnyCrash (D.view disk.old).timeline (D.view disk.new).timeline (λ bytes. records_of bytes ≡ records_of (reads (D.view disk.old))) }
     ensures memory { IsErrOf result Fault.Memory → (D.view disk.new).timeline ≡ (D.view disk.old).timeline }
-    ensures failed { IsErrOf result Fault.Disk → Rose (D.view disk.old).faults (D.view disk.new).faults }
+    ensures failed { IsErrOf result Fault.Disk → (D.view disk.new).faults ≡ bumped (D.view disk.old).faults }
     ensures faults { (D.view disk.old).faults ≤ (D.view disk.new).faults }
     ensures no_fault { OnOk result ((D.view disk.new).faults ≡ (D.view disk.old).faults) }
     ensures no_fault_memory { IsErrOf result Fault.Memory → (D.view disk.new).faults ≡ (D.view disk.old).faults }
+    ensures word { (D.view disk.new).word ≡ (D.view disk.old).word }
     ensures armed { (D.view disk.new).armed ≤ (D.view disk.old).armed }
     ensures running { OnOk result ((D.view disk.new).stopped ≡ false) }
     ensures memory_state { IsErrOf result Fault.Memory → ((D.view disk.new).stopped ≡ (D.view disk.old).stopped) × ((D.view disk.new).armed ≡ (D.view disk.old).armed) }
     ensures one_write { ((D.view disk.new).armed ≡ (D.view disk.old).armed) ⊎ ((D.view disk.new).armed ≡ (D.view disk.old).armed - 1) }
-    ensures counted { OnOk result (((D.view disk.new).armed ≡ (D.view disk.old).armed) ⊎ ((D.view disk.old).armed ≢ 1)) }
+    ensures spends { OnOk result (Spends 1 (D.view disk.old).armed (D.view disk.new).armed) }
 {
     if !gate_is_open(disk, end)? {
         return Ok(());
@@ -68,13 +71,14 @@ fn close_gate<D: Disk>(disk: &mut D, end: u64) -> Result<(), Fault>
     ensures synced { OnOk result (IsSynced (D.view disk.new)) }
     ensures any_crash { AnyCrash (D.view disk.old).timeline (D.view disk.new).timeline (λ bytes. records_of bytes ≡ records_of (reads (D.view disk.old))) }
     ensures memory { IsErrOf result Fault.Memory → D.view disk.new ≡ D.view disk.old }
-    ensures failed { IsErrOf result Fault.Disk → Rose (D.view disk.old).faults (D.view disk.new).faults }
+    ensures failed { IsErrOf result Fault.Disk → (D.view disk.new).faults ≡ bumped (D.view disk.old).faults }
     ensures faults { (D.view disk.old).faults ≤ (D.view disk.new).faults }
     ensures no_fault { OnOk result ((D.view disk.new).faults ≡ (D.view disk.old).faults) }
+    ensures word { (D.view disk.new).word ≡ (D.view disk.old).word }
     ensures armed { (D.view disk.new).armed ≤ (D.view disk.old).armed }
     ensures running { OnOk result ((D.view disk.new).stopped ≡ false) }
     ensures one_write { ((D.view disk.new).armed ≡ (D.view disk.old).armed) ⊎ ((D.view disk.new).armed ≡ (D.view disk.old).armed - 1) }
-    ensures counted { OnOk result ((D.view disk.old).armed ≢ 1) }
+    ensures spends { OnOk result (Spends 1 (D.view disk.old).armed (D.view disk.new).armed) }
 {
     write_synced(disk, end, &[CLOSED])?;
     Ok(())

@@ -1,10 +1,10 @@
 -- The register counted each write in which it failed, and each call while it was down.
-use Rattle.std.proofs.Common.{◌≡◌, refl, sym, ap, ◌∙◌, subst, inl, inr, ℕ, ◌+◌, ◌-◌, ◌^◌, ◌≤◌, min, Bool, true, false, List, [], ◌∷◌, Option, None, Some, arith}
+use Rattle.std.proofs.Common.{◌≡◌, refl, sym, ap, ◌∙◌, subst, ℕ, ◌+◌, ◌-◌, ◌^◌, ◌≤◌, min, Bool, true, false, List, [], ◌∷◌, Option, None, Some, Ok, arith}
 use Rattle.std.specs.Prelude.{MatchBool, count_by, filter}
 use Rattle.delos_types.specs.declared.chain.Chain.{Chain}
 use Rattle.loglet_api.specs.declared.call.Answer.TheVariants as answers
 use Rattle.register_api.specs.View.{RegisterView}
-use Rattle.register_api.specs.Calls.{Rose, IsDown, reopened}
+use Rattle.register_api.specs.Calls.{IsDown, Reopens, reopened}
 use Rattle.legal_journal.specs.Law.{Law}
 use Rattle.legal_journal.specs.declared.events.Event.{Event}
 use Rattle.legal_journal.specs.declared.events.FabricCall.{FabricCall}
@@ -13,7 +13,7 @@ use Rattle.legal_journal.specs.declared.events.FabricAnswer.{FabricAnswer}
 use Rattle.legal_journal.specs.declared.events.FabricAnswer.TheVariants as fabric
 use Rattle.legal_journal.specs.Moves.{Never, move_of, move}
 use Rattle.legal_journal.specs.Journal.{State, IsAllowed, IsLegalFrom, IsLegal, start, after}
-use Rattle.fabric_core.specs.Runs.{RegisterDoes, RegisterRun, HasRegisterRun, is_on_register}
+use Rattle.fabric_core.specs.Runs.{RegisterDoes, Drifts, RegisterRun, HasRegisterRun, is_on_register}
 use Rattle.journal_laws.specs.Faults.{fault_of, faults_in, is_meta}
 use Rattle.journal_laws.proofs.Telling.{weight, count-more}
 
@@ -21,20 +21,21 @@ use Rattle.journal_laws.proofs.Telling.{weight, count-more}
 abbrev Counted : ℕ → RegisterView → RegisterView → Type 0
 Counted n old new = min (n + old.faults) (2 ^ 64 - 1) ≤ new.faults
 
-faults_of : (old new : RegisterView) → new ≡ old → new.faults ≡ old.faults
-faults_of old new e = ap (λ (v : RegisterView). v.faults) e
-
 down : (old new : RegisterView) → IsDown old new → Counted 1 old new
 down old new d = let e = ap (λ (v : RegisterView). v.faults) d.counted in omega (arith, e)
-
-rose : (n : ℕ) (old new : RegisterView) → n ≤ 1 → Rose old.faults new.faults → Counted n old new
-rose n old new small (inl h) = omega (arith, small, h)
-rose n old new small (inr h) = omega (arith, small, h)
 
 reopened-faults : (v : RegisterView) (kept : Bool) (o : Option Chain) → (reopened v kept o).faults ≡ v.faults
 reopened-faults v kept None = refl
 reopened-faults v true (Some c) = refl
 reopened-faults v false (Some c) = refl
+
+-- one that is up, or up again, counts none
+mended : (word : ℕ) (old new : RegisterView) → Reopens old word (Ok true) new → Counted 0 old new
+mended word old new d = by old.down refl
+  where
+    by : (b : Bool) → old.down ≡ b → Counted 0 old new
+    by false up = let e = ap (λ (v : RegisterView). v.faults) (d.0 up) in omega (arith, e)
+    by true was = let h = d.1 was in let e = ap (λ (v : RegisterView). v.faults) h.2 ∙ reopened-faults old h.0 old.asked in omega (arith, e)
 
 -- each call counts its fault
 does : (c : FabricCall) (a : FabricAnswer) (old new : RegisterView) → RegisterDoes old c a new → Counted (weight is_meta (fault_of a c)) old new
@@ -42,11 +43,11 @@ does ReadChain (fabric.At version chain) old new d = let e = ap (λ (v : Registe
 does ReadChain fabric.Down old new d = down old new d
 does (WriteChain x c) (fabric.Written version) old new d = let e = ap (λ (v : RegisterView). v.faults) d.stands in omega (arith, e)
 does (WriteChain x c) (fabric.Conflict version chain) old new d = let e = ap (λ (v : RegisterView). v.faults) d.0.told in omega (arith, e)
-does (WriteChain x c) fabric.MetaFault old new d = rose 1 old new (omega arith) d.rose
+does (WriteChain x c) fabric.MetaFault old new d = let e = ap (λ (v : RegisterView). v.faults) d.torn in omega (arith, e)
 does (WriteChain x c) fabric.Down old new d = down old new d
 does (StopMeta n) (fabric.Set true) old new d = let e = ap (λ (v : RegisterView). v.faults) d in omega (arith, e)
-does (MendMeta word) (fabric.Set true) old new d = let e = ap (λ (v : RegisterView). v.faults) d.1.1 ∙ reopened-faults old d.1.0 old.asked in omega (arith, e)
-does (MendMeta word) (fabric.Set false) old new d = rose 0 old new (omega arith) d.1
+does (MendMeta word) (fabric.Set true) old new d = mended word old new d
+does (MendMeta word) (fabric.Set false) old new d = let e = ap (λ (v : RegisterView). v.faults) d.1 in omega (arith, e)
 does c a old new d = absurd d
 
 abbrev own : List Event → List Event
@@ -55,18 +56,30 @@ own events = filter (λ e. is_on_register e.call) events
 both : (n m : ℕ) (a b c : RegisterView) → Counted n a b → Counted m b c → Counted (n + m) a c
 both n m a b c h k = omega (arith, h, k)
 
+-- calls for which memory was wanting count none
+drifted : (old new : RegisterView) → Drifts old new → Counted 0 old new
+drifted old new d = let e = ap (λ (v : RegisterView). v.faults) d.is in omega (arith, e)
+
+-- what is counted behind them is counted in all
+behind : (n : ℕ) (a b c : RegisterView) → Counted 0 a b → Counted n b c → Counted n a c
+behind n a b c h k = omega (arith, h, k)
+
 run_counts : (events : List Event) (old new : RegisterView) → RegisterRun old events new → Counted (count_by is_meta (faults_in (own events))) old new
-run_counts [] old new run = let e = faults_of old new run in omega (arith, e)
+run_counts [] old new run = drifted old new run
 run_counts (e ∷ es) old new run = by (run_counts es run.0 new run.2) (is_on_register e.call) refl
   where
     by : Counted (count_by is_meta (faults_in (own es))) run.0 new → (b : Bool) → is_on_register e.call ≡ b → Counted (count_by is_meta (faults_in (own (e ∷ es)))) old new
     by rest true on =
-        let d = subst (λ b. MatchBool b (RegisterDoes old e.call e.answer run.0) (run.0 ≡ old)) on run.1 in
-        let k = both (weight is_meta (fault_of e.answer e.call)) (count_by is_meta (faults_in (own es))) old run.0 new (does e.call e.answer old run.0 d) rest in
+        let at = run.1.before in
+        let d = subst (λ b. MatchBool b (RegisterDoes at e.call e.answer run.0) (run.0 ≡ at)) on run.1.does in
+        let h = behind (weight is_meta (fault_of e.answer e.call)) old at run.0 (drifted old at run.1.drifted) (does e.call e.answer at run.0 d) in
+        let k = both (weight is_meta (fault_of e.answer e.call)) (count_by is_meta (faults_in (own es))) old run.0 new h rest in
         rw on (subst (λ n. Counted n old new) (sym (count-more is_meta e (own es))) k)
     by rest false off =
-        let same = subst (λ b. MatchBool b (RegisterDoes old e.call e.answer run.0) (run.0 ≡ old)) off run.1 in
-        rw off (subst (λ v. Counted (count_by is_meta (faults_in (own es))) v new) same rest)
+        let at = run.1.before in
+        let same = subst (λ b. MatchBool b (RegisterDoes at e.call e.answer run.0) (run.0 ≡ at)) off run.1.does in
+        let k = behind (count_by is_meta (faults_in (own es))) old at new (drifted old at run.1.drifted) (subst (λ v. Counted (count_by is_meta (faults_in (own es))) v new) same rest) in
+        rw off k
 
 pub own_counted : (events : List Event) (now : RegisterView) → HasRegisterRun events now → min (count_by is_meta (faults_in (filter (λ e. is_on_register e.call) events))) (2 ^ 64 - 1) ≤ now.faults
 own_counted events now h = let k = run_counts events h.opening now h.run in omega (arith, k)

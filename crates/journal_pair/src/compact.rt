@@ -1,7 +1,8 @@
 //! Records in the place of others.
-ghost use Rattle.std.specs.Prelude.{◌≡◌, ◌≢◌, ◌⊎◌, ◌+◌, ◌-◌, ◌^◌, ◌<◌, ◌≤◌, ℕ, true, false, not, [], length, nat_lt, Vec, IfOk, OnOk, IsErrOf};
+ghost use Rattle.std.specs.Prelude.{◌≡◌, ◌≢◌, ◌⊎◌, ◌+◌, ◌-◌, ◌^◌, ◌<◌, ◌≤◌, ℕ, true, false, not, [], length, Vec, IfOk, OnOk, IsErrOf};
 ghost use Rattle.std.specs.declared.alloc.Global.{Global};
-ghost use Rattle.disk_model.specs.Disk.{reads, IsSynced, Rose};
+ghost use Rattle.disk_model.specs.Disk.{reads, IsSynced, bumped};
+ghost use Rattle.disk_model.specs.Armed.{Spends};
 ghost use Rattle.disk_model.specs.Crash.{AnyCrash};
 ghost use Rattle.journal_core.specs.Records.{payloads};
 ghost use Rattle.journal_pair.specs.Records.{records_of};
@@ -44,15 +45,16 @@ pub(crate) fn replace<D: Disk>(
     ensures before { (before : Vec (Vec ℕ Global) Global) → IsErrOf result (Unplaced.Torn before) → payloads before.items ≡ records_of (reads (D.view disk.old)) }
     ensures synced { OnOk result (IsSynced (D.view disk.new)) }
     ensures memory_synced { IsErrOf result Unplaced.Memory → IsSynced (D.view disk.new) }
-    ensures failed_unwritten { IsErrOf result Unplaced.Unwritten → Rose (D.view disk.old).faults (D.view disk.new).faults }
-    ensures failed { (before : Vec (Vec ℕ Global) Global) → IsErrOf result (Unplaced.Torn before) → Rose (D.view disk.old).faults (D.view disk.new).faults }
+    ensures failed_unwritten { IsErrOf result Unplaced.Unwritten → (D.view disk.new).faults ≡ bumped (D.view disk.old).faults }
+    ensures failed { (before : Vec (Vec ℕ Global) Global) → IsErrOf result (Unplaced.Torn before) → (D.view disk.new).faults ≡ bumped (D.view disk.old).faults }
     ensures faults { (D.view disk.old).faults ≤ (D.view disk.new).faults }
     ensures no_fault { OnOk result ((D.view disk.new).faults ≡ (D.view disk.old).faults) }
     ensures no_fault_memory { IsErrOf result Unplaced.Memory → (D.view disk.new).faults ≡ (D.view disk.old).faults }
+    ensures word { (D.view disk.new).word ≡ (D.view disk.old).word }
     ensures armed { (D.view disk.new).armed ≤ (D.view disk.old).armed }
     ensures within { (D.view disk.old).armed ≤ (D.view disk.new).armed + 4 }
-    ensures ok_armed { OnOk result (nat_lt 0 (D.view disk.new).armed ≡ nat_lt 0 (D.view disk.old).armed) }
-    ensures memory_armed { IsErrOf result Unplaced.Memory → nat_lt 0 (D.view disk.new).armed ≡ nat_lt 0 (D.view disk.old).armed }
+    ensures spends { OnOk result (Spends 4 (D.view disk.old).armed (D.view disk.new).armed) }
+    ensures spends_memory { IsErrOf result Unplaced.Memory → Spends 2 (D.view disk.old).armed (D.view disk.new).armed }
     ensures running { OnOk result ((D.view disk.new).stopped ≡ false) }
     ensures memory_running { (D.view disk.old).stopped ≡ false → IsErrOf result Unplaced.Memory → (D.view disk.new).stopped ≡ false }
 {
@@ -85,14 +87,15 @@ fn select_other<D: Disk>(
     ensures memory { IsErrOf result Fault.Memory → Stands (records_of (reads (D.view disk.old))) area (reads (D.view disk.new)) }
     ensures synced { OnOk result (IsSynced (D.view disk.new)) }
     ensures memory_synced { IsErrOf result Fault.Memory → IsSynced (D.view disk.new) }
-    ensures failed { IsErrOf result Fault.Disk → Rose (D.view disk.old).faults (D.view disk.new).faults }
+    ensures failed { IsErrOf result Fault.Disk → (D.view disk.new).faults ≡ bumped (D.view disk.old).faults }
     ensures faults { (D.view disk.old).faults ≤ (D.view disk.new).faults }
     ensures no_fault { OnOk result ((D.view disk.new).faults ≡ (D.view disk.old).faults) }
     ensures no_fault_memory { IsErrOf result Fault.Memory → (D.view disk.new).faults ≡ (D.view disk.old).faults }
+    ensures word { (D.view disk.new).word ≡ (D.view disk.old).word }
     ensures armed { (D.view disk.new).armed ≤ (D.view disk.old).armed }
     ensures within { (D.view disk.old).armed ≤ (D.view disk.new).armed + 4 }
-    ensures ok_armed { OnOk result (nat_lt 0 (D.view disk.new).armed ≡ nat_lt 0 (D.view disk.old).armed) }
-    ensures memory_armed { IsErrOf result Fault.Memory → nat_lt 0 (D.view disk.new).armed ≡ nat_lt 0 (D.view disk.old).armed }
+    ensures spends { OnOk result (Spends 4 (D.view disk.old).armed (D.view disk.new).armed) }
+    ensures spends_memory { IsErrOf result Fault.Memory → Spends 2 (D.view disk.old).armed (D.view disk.new).armed }
     ensures running { OnOk result ((D.view disk.new).stopped ≡ false) }
     ensures memory_running { (D.view disk.old).stopped ≡ false → IsErrOf result Fault.Memory → (D.view disk.new).stopped ≡ false }
 {
@@ -114,14 +117,15 @@ fn lay<D: Disk>(alloc: Global, disk: &mut D, area: Area, records: &[Vec<u8>]) ->
     ensures memory { IsErrOf result Fault.Memory → Stands (records_of (reads (D.view disk.old))) area (reads (D.view disk.new)) }
     ensures synced { OnOk result (IsSynced (D.view disk.new)) }
     ensures memory_synced { IsErrOf result Fault.Memory → IsSynced (D.view disk.new) }
-    ensures failed { IsErrOf result Fault.Disk → Rose (D.view disk.old).faults (D.view disk.new).faults }
+    ensures failed { IsErrOf result Fault.Disk → (D.view disk.new).faults ≡ bumped (D.view disk.old).faults }
     ensures faults { (D.view disk.old).faults ≤ (D.view disk.new).faults }
     ensures no_fault { OnOk result ((D.view disk.new).faults ≡ (D.view disk.old).faults) }
     ensures no_fault_memory { IsErrOf result Fault.Memory → (D.view disk.new).faults ≡ (D.view disk.old).faults }
+    ensures word { (D.view disk.new).word ≡ (D.view disk.old).word }
     ensures armed { (D.view disk.new).armed ≤ (D.view disk.old).armed }
     ensures within { (D.view disk.old).armed ≤ (D.view disk.new).armed + 2 }
-    ensures ok_armed { OnOk result (nat_lt 0 (D.view disk.new).armed ≡ nat_lt 0 (D.view disk.old).armed) }
-    ensures memory_armed { IsErrOf result Fault.Memory → nat_lt 0 (D.view disk.new).armed ≡ nat_lt 0 (D.view disk.old).armed }
+    ensures spends { OnOk result (Spends 2 (D.view disk.old).armed (D.view disk.new).armed) }
+    ensures spends_memory { IsErrOf result Fault.Memory → Spends 1 (D.view disk.old).armed (D.view disk.new).armed }
     ensures running { OnOk result ((D.view disk.new).stopped ≡ false) }
     ensures memory_running { (D.view disk.old).stopped ≡ false → IsErrOf result Fault.Memory → (D.view disk.new).stopped ≡ false }
 {
@@ -177,12 +181,13 @@ fn cut_behind<D: Disk>(disk: &mut D, area: Area) -> Result<(), Fault>
     ensures any_crash { AnyCrash (D.view disk.old).timeline (D.view disk.new).timeline (λ bytes. records_of bytes ≡ records_of (reads (D.view disk.old))) }
     ensures memory { IsErrOf result Fault.Memory → ⊥ }
     ensures synced { OnOk result (IsSynced (D.view disk.new)) }
-    ensures failed { IsErrOf result Fault.Disk → Rose (D.view disk.old).faults (D.view disk.new).faults }
+    ensures failed { IsErrOf result Fault.Disk → (D.view disk.new).faults ≡ bumped (D.view disk.old).faults }
     ensures faults { (D.view disk.old).faults ≤ (D.view disk.new).faults }
     ensures no_fault { OnOk result ((D.view disk.new).faults ≡ (D.view disk.old).faults) }
+    ensures word { (D.view disk.new).word ≡ (D.view disk.old).word }
     ensures armed { (D.view disk.new).armed ≤ (D.view disk.old).armed }
     ensures within { (D.view disk.old).armed ≤ (D.view disk.new).armed + 1 }
-    ensures ok_armed { OnOk result (nat_lt 0 (D.view disk.new).armed ≡ nat_lt 0 (D.view disk.old).armed) }
+    ensures spends { OnOk result (Spends 1 (D.view disk.old).armed (D.view disk.new).armed) }
     ensures running { OnOk result ((D.view disk.new).stopped ≡ false) }
 {
     let end = area.base + area.len + 1;

@@ -1,6 +1,7 @@
 //! A cut and a sync, one after the other.
-ghost use Rattle.std.specs.Prelude.{◌≡◌, ◌≢◌, ◌⊎◌, ◌+◌, ◌-◌, ◌≤◌, nat_lt, false, [], take, length, OnOk, IsErrOf};
-ghost use Rattle.disk_model.specs.Disk.{at_rest, reads, IsSynced, Rose};
+ghost use Rattle.std.specs.Prelude.{◌≡◌, ◌≢◌, ◌⊎◌, ◌+◌, ◌-◌, ◌≤◌, false, [], take, length, OnOk, IsErrOf};
+ghost use Rattle.disk_model.specs.Disk.{at_rest, reads, IsSynced, bumped};
+ghost use Rattle.disk_model.specs.Armed.{Spends};
 ghost use Rattle.disk_model.specs.Crash.{AnyCrash};
 ghost use Rattle.journal_pair.specs.Cut.{IsCut};
 
@@ -12,12 +13,13 @@ pub(crate) fn cut_synced<D: Disk>(disk: &mut D, len: u64) -> Result<(), WriteFau
     ensures ok { OnOk result ((D.view disk.new).timeline.now ≡ at_rest (take len (reads (D.view disk.old)))) }
     ensures any_crash { AnyCrash (D.view disk.old).timeline (D.view disk.new).timeline (IsCut (reads (D.view disk.old)) len) }
     ensures memory { IsErrOf result WriteFault.Memory → D.view disk.new ≡ D.view disk.old }
-    ensures failed { IsErrOf result WriteFault.Failed → Rose (D.view disk.old).faults (D.view disk.new).faults }
+    ensures failed { IsErrOf result WriteFault.Failed → (D.view disk.new).faults ≡ bumped (D.view disk.old).faults }
     ensures faults { (D.view disk.old).faults ≤ (D.view disk.new).faults }
     ensures no_fault { OnOk result ((D.view disk.new).faults ≡ (D.view disk.old).faults) }
+    ensures word { (D.view disk.new).word ≡ (D.view disk.old).word }
     ensures armed { (D.view disk.new).armed ≤ (D.view disk.old).armed }
     ensures within { (D.view disk.old).armed ≤ (D.view disk.new).armed + 1 }
-    ensures ok_armed { OnOk result (nat_lt 0 (D.view disk.new).armed ≡ nat_lt 0 (D.view disk.old).armed) }
+    ensures spends { OnOk result (Spends 1 (D.view disk.old).armed (D.view disk.new).armed) }
     ensures running { OnOk result ((D.view disk.new).stopped ≡ false) }
 {
     disk.cut(len)?;

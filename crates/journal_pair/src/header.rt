@@ -1,8 +1,9 @@
 //! The header of a disk: whether it is ready, which of two slots is selected, and the bases in them.
-ghost use Rattle.std.specs.Prelude.{◌≡◌, ◌≢◌, ◌⊎◌, ◌+◌, ◌-◌, ◌^◌, ◌<◌, ◌≤◌, ◌==◌, ℕ, true, false, [], ◌∷◌, length, nat_lt, slice_index, IfOk, IfSome, OnOk, IsErrOf, MatchOption, if◌then◌else◌};
-ghost use Rattle.disk_model.specs.Disk.{Written, changed, at_rest, reads, IsSynced, Rose};
+ghost use Rattle.std.specs.Prelude.{◌≡◌, ◌≢◌, ◌⊎◌, ◌+◌, ◌-◌, ◌^◌, ◌<◌, ◌≤◌, ◌==◌, ℕ, true, false, [], ◌∷◌, length, slice_index, IfOk, IfSome, OnOk, IsErrOf, MatchOption, if◌then◌else◌};
+ghost use Rattle.disk_model.specs.Disk.{Written, changed, at_rest, reads, IsSynced, bumped};
 ghost use Rattle.disk_model.specs.Torn.{IsTorn};
 ghost use Rattle.std.specs.Int.{w64, to_be_bytes};
+ghost use Rattle.disk_model.specs.Armed.{Spends};
 ghost use Rattle.disk_model.specs.Crash.{AnyCrash};
 ghost use Rattle.journal_pair.specs.Records.{is_ready, records_of, slot_at};
 ghost use Rattle.journal_pair.specs.Layout.{Selects, Stands, first_area};
@@ -49,11 +50,12 @@ pub(crate) fn read_header<D: Disk>(disk: &mut D) -> Result<Option<(bool, u64)>, 
     ensures value { IfOk result (λ o. MatchOption o (is_ready (reads (D.view disk.old)) ≡ false) (λ h. Selects h.0 h.1 (reads (D.view disk.old)))) }
     ensures fits { IfOk result (λ o. IfSome o (λ h. h.1 + 1 < 2 ^ 64)) }
     ensures same { (D.view disk.new).timeline ≡ (D.view disk.old).timeline }
-    ensures failed { IsErrOf result Fault.Disk → Rose (D.view disk.old).faults (D.view disk.new).faults }
+    ensures failed { IsErrOf result Fault.Disk → (D.view disk.new).faults ≡ bumped (D.view disk.old).faults }
     ensures memory { IsErrOf result Fault.Memory → ⊥ }
     ensures faults { (D.view disk.old).faults ≤ (D.view disk.new).faults }
     ensures no_fault { OnOk result ((D.view disk.new).faults ≡ (D.view disk.old).faults) }
     ensures state { ((D.view disk.new).stopped ≡ (D.view disk.old).stopped) × ((D.view disk.new).armed ≡ (D.view disk.old).armed) }
+    ensures word { (D.view disk.new).word ≡ (D.view disk.old).word }
 {
     let len = disk.len();
     if len <= HEADER {
@@ -78,12 +80,13 @@ pub(crate) fn write_slot<D: Disk>(disk: &mut D, area: Area) -> Result<(), Fault>
     ensures ok { OnOk result ((D.view disk.new).timeline.now ≡ at_rest (changed (Written (slot_at area.second) (to_be_bytes w64 area.base)) (reads (D.view disk.old)))) }
     ensures any_crash { AnyCrash (D.view disk.old).timeline (D.view disk.new).timeline (IsTorn (reads (D.view disk.old)) (slot_at area.second) 8) }
     ensures memory { IsErrOf result Fault.Memory → D.view disk.new ≡ D.view disk.old }
-    ensures failed { IsErrOf result Fault.Disk → Rose (D.view disk.old).faults (D.view disk.new).faults }
+    ensures failed { IsErrOf result Fault.Disk → (D.view disk.new).faults ≡ bumped (D.view disk.old).faults }
     ensures faults { (D.view disk.old).faults ≤ (D.view disk.new).faults }
     ensures no_fault { OnOk result ((D.view disk.new).faults ≡ (D.view disk.old).faults) }
+    ensures word { (D.view disk.new).word ≡ (D.view disk.old).word }
     ensures armed { (D.view disk.new).armed ≤ (D.view disk.old).armed }
     ensures within { (D.view disk.old).armed ≤ (D.view disk.new).armed + 1 }
-    ensures ok_armed { OnOk result (nat_lt 0 (D.view disk.new).armed ≡ nat_lt 0 (D.view disk.old).armed) }
+    ensures spends { OnOk result (Spends 1 (D.view disk.old).armed (D.view disk.new).armed) }
     ensures running { OnOk result ((D.view disk.new).stopped ≡ false) }
 {
     write_synced(disk, slot(area.second), &area.base.to_be_bytes())?;
@@ -98,14 +101,15 @@ pub(crate) fn make_ready<D: Disk>(disk: &mut D) -> Result<(), Fault>
     ensures any_crash { AnyCrash (D.view disk.old).timeline (D.view disk.new).timeline (λ bytes. records_of bytes ≡ []) }
     ensures synced { OnOk result (IsSynced (D.view disk.new)) }
     ensures memory_synced { IsErrOf result Fault.Memory → IsSynced (D.view disk.new) }
-    ensures failed { IsErrOf result Fault.Disk → Rose (D.view disk.old).faults (D.view disk.new).faults }
+    ensures failed { IsErrOf result Fault.Disk → (D.view disk.new).faults ≡ bumped (D.view disk.old).faults }
     ensures faults { (D.view disk.old).faults ≤ (D.view disk.new).faults }
     ensures no_fault { OnOk result ((D.view disk.new).faults ≡ (D.view disk.old).faults) }
     ensures no_fault_memory { IsErrOf result Fault.Memory → (D.view disk.new).faults ≡ (D.view disk.old).faults }
+    ensures word { (D.view disk.new).word ≡ (D.view disk.old).word }
     ensures armed { (D.view disk.new).armed ≤ (D.view disk.old).armed }
     ensures within { (D.view disk.old).armed ≤ (D.view disk.new).armed + 4 }
-    ensures ok_armed { OnOk result (nat_lt 0 (D.view disk.new).armed ≡ nat_lt 0 (D.view disk.old).armed) }
-    ensures memory_armed { IsErrOf result Fault.Memory → nat_lt 0 (D.view disk.new).armed ≡ nat_lt 0 (D.view disk.old).armed }
+    ensures spends { OnOk result (Spends 4 (D.view disk.old).armed (D.view disk.new).armed) }
+    ensures spends_memory { IsErrOf result Fault.Memory → Spends 3 (D.view disk.old).armed (D.view disk.new).armed }
     ensures running { OnOk result ((D.view disk.new).stopped ≡ false) }
     ensures memory_running { (D.view disk.old).stopped ≡ false → IsErrOf result Fault.Memory → (D.view disk.new).stopped ≡ false }
 {
@@ -125,14 +129,15 @@ fn write_unready<D: Disk>(disk: &mut D) -> Result<(), Fault>
     ensures any_crash { AnyCrash (D.view disk.old).timeline (D.view disk.new).timeline (λ bytes. is_ready bytes ≡ false) }
     ensures synced { OnOk result (IsSynced (D.view disk.new)) }
     ensures memory_synced { IsErrOf result Fault.Memory → IsSynced (D.view disk.new) }
-    ensures failed { IsErrOf result Fault.Disk → Rose (D.view disk.old).faults (D.view disk.new).faults }
+    ensures failed { IsErrOf result Fault.Disk → (D.view disk.new).faults ≡ bumped (D.view disk.old).faults }
     ensures faults { (D.view disk.old).faults ≤ (D.view disk.new).faults }
     ensures no_fault { OnOk result ((D.view disk.new).faults ≡ (D.view disk.old).faults) }
     ensures no_fault_memory { IsErrOf result Fault.Memory → (D.view disk.new).faults ≡ (D.view disk.old).faults }
+    ensures word { (D.view disk.new).word ≡ (D.view disk.old).word }
     ensures armed { (D.view disk.new).armed ≤ (D.view disk.old).armed }
     ensures within { (D.view disk.old).armed ≤ (D.view disk.new).armed + 1 }
-    ensures ok_armed { OnOk result (nat_lt 0 (D.view disk.new).armed ≡ nat_lt 0 (D.view disk.old).armed) }
-    ensures memory_armed { IsErrOf result Fault.Memory → nat_lt 0 (D.view disk.new).armed ≡ nat_lt 0 (D.view disk.old).armed }
+    ensures spends { OnOk result (Spends 1 (D.view disk.old).armed (D.view disk.new).armed) }
+    ensures spends_memory { IsErrOf result Fault.Memory → Spends 0 (D.view disk.old).armed (D.view disk.new).armed }
     ensures still_running { (D.view disk.old).stopped ≡ false → OnOk result ((D.view disk.new).stopped ≡ false) }
     ensures memory_running { (D.view disk.old).stopped ≡ false → IsErrOf result Fault.Memory → (D.view disk.new).stopped ≡ false }
 {
@@ -148,11 +153,12 @@ fn says_unready<D: Disk>(disk: &mut D) -> Result<bool, Fault>
     ensures said { IfOk result (λ b. b ≡ true → (1 ≤ length (reads (D.view disk.old))) × (slice_index (reads (D.view disk.old)) 0 ≢ 1)) }
     ensures unsaid { IfOk result (λ b. b ≡ false → 1 ≤ length (reads (D.view disk.old)) → slice_index (reads (D.view disk.old)) 0 ≡ 1) }
     ensures same { (D.view disk.new).timeline ≡ (D.view disk.old).timeline }
-    ensures failed { IsErrOf result Fault.Disk → Rose (D.view disk.old).faults (D.view disk.new).faults }
+    ensures failed { IsErrOf result Fault.Disk → (D.view disk.new).faults ≡ bumped (D.view disk.old).faults }
     ensures memory { IsErrOf result Fault.Memory → ⊥ }
     ensures faults { (D.view disk.old).faults ≤ (D.view disk.new).faults }
     ensures no_fault { OnOk result ((D.view disk.new).faults ≡ (D.view disk.old).faults) }
     ensures state { ((D.view disk.new).stopped ≡ (D.view disk.old).stopped) × ((D.view disk.new).armed ≡ (D.view disk.old).armed) }
+    ensures word { (D.view disk.new).word ≡ (D.view disk.old).word }
 {
     if disk.len() == 0 {
         return Ok(false);
@@ -172,14 +178,15 @@ fn cut_behind_first<D: Disk>(disk: &mut D) -> Result<(), Fault>
     ensures any_crash { AnyCrash (D.view disk.old).timeline (D.view disk.new).timeline (λ bytes. is_ready bytes ≡ false) }
     ensures synced { OnOk result (IsSynced (D.view disk.new)) }
     ensures memory_synced { IsErrOf result Fault.Memory → IsSynced (D.view disk.new) }
-    ensures failed { IsErrOf result Fault.Disk → Rose (D.view disk.old).faults (D.view disk.new).faults }
+    ensures failed { IsErrOf result Fault.Disk → (D.view disk.new).faults ≡ bumped (D.view disk.old).faults }
     ensures faults { (D.view disk.old).faults ≤ (D.view disk.new).faults }
     ensures no_fault { OnOk result ((D.view disk.new).faults ≡ (D.view disk.old).faults) }
     ensures no_fault_memory { IsErrOf result Fault.Memory → (D.view disk.new).faults ≡ (D.view disk.old).faults }
+    ensures word { (D.view disk.new).word ≡ (D.view disk.old).word }
     ensures armed { (D.view disk.new).armed ≤ (D.view disk.old).armed }
     ensures within { (D.view disk.old).armed ≤ (D.view disk.new).armed + 1 }
-    ensures ok_armed { OnOk result (nat_lt 0 (D.view disk.new).armed ≡ nat_lt 0 (D.view disk.old).armed) }
-    ensures memory_armed { IsErrOf result Fault.Memory → nat_lt 0 (D.view disk.new).armed ≡ nat_lt 0 (D.view disk.old).armed }
+    ensures spends { OnOk result (Spends 1 (D.view disk.old).armed (D.view disk.new).armed) }
+    ensures spends_memory { IsErrOf result Fault.Memory → Spends 0 (D.view disk.old).armed (D.view disk.new).armed }
     ensures still_running { (D.view disk.old).stopped ≡ false → OnOk result ((D.view disk.new).stopped ≡ false) }
     ensures memory_running { (D.view disk.old).stopped ≡ false → IsErrOf result Fault.Memory → (D.view disk.new).stopped ≡ false }
 {

@@ -1,6 +1,7 @@
 //! A record on its way to the disk.
-ghost use Rattle.std.specs.Prelude.{◌≡◌, ◌≢◌, ◌⊎◌, ◌+◌, ◌-◌, ◌^◌, ◌<◌, ◌≤◌, ℕ, false, [], ◌∷◌, ◌++◌, length, nat_lt, IfOk, OnOk, IsErrOf};
-ghost use Rattle.disk_model.specs.Disk.{reads, IsSynced, Rose};
+ghost use Rattle.std.specs.Prelude.{◌≡◌, ◌≢◌, ◌⊎◌, ◌+◌, ◌-◌, ◌^◌, ◌<◌, ◌≤◌, ℕ, false, [], ◌∷◌, ◌++◌, length, IfOk, OnOk, IsErrOf};
+ghost use Rattle.disk_model.specs.Disk.{reads, IsSynced, bumped};
+ghost use Rattle.disk_model.specs.Armed.{Spends, TakesRecord};
 ghost use Rattle.disk_model.specs.Crash.{AnyCrash};
 ghost use Rattle.journal_pair.specs.Records.{records_of};
 ghost use Rattle.journal_pair.specs.Layout.{Stands, BeforeOrWith};
@@ -28,14 +29,14 @@ pub(crate) fn add<D: Disk>(
     ensures memory { IsErrOf result Fault.Memory → Stands (records_of (reads (D.view disk.old))) area (reads (D.view disk.new)) }
     ensures ok_synced { OnOk result (IsSynced (D.view disk.new)) }
     ensures memory_synced { IsErrOf result Fault.Memory → IsSynced (D.view disk.new) }
-    ensures failed { IsErrOf result Fault.Disk → Rose (D.view disk.old).faults (D.view disk.new).faults }
+    ensures failed { IsErrOf result Fault.Disk → (D.view disk.new).faults ≡ bumped (D.view disk.old).faults }
     ensures faults { (D.view disk.old).faults ≤ (D.view disk.new).faults }
     ensures no_fault { OnOk result ((D.view disk.new).faults ≡ (D.view disk.old).faults) }
     ensures no_fault_memory { IsErrOf result Fault.Memory → (D.view disk.new).faults ≡ (D.view disk.old).faults }
+    ensures word { (D.view disk.new).word ≡ (D.view disk.old).word }
     ensures armed { (D.view disk.new).armed ≤ (D.view disk.old).armed }
-    ensures counted { OnOk result (((D.view disk.old).armed ≢ 1) × ((D.view disk.old).armed ≢ 2) × ((D.view disk.new).armed ≡ (D.view disk.old).armed - 2)) }
-    ensures still_armed { IsErrOf result Fault.Memory → nat_lt 0 (D.view disk.new).armed ≡ nat_lt 0 (D.view disk.old).armed }
-    ensures ok_armed { OnOk result (nat_lt 0 (D.view disk.new).armed ≡ nat_lt 0 (D.view disk.old).armed) }
+    ensures counted { OnOk result (TakesRecord 0 (D.view disk.old).armed (D.view disk.new).armed) }
+    ensures spends_memory { IsErrOf result Fault.Memory → Spends 1 (D.view disk.old).armed (D.view disk.new).armed }
     ensures running { OnOk result ((D.view disk.new).stopped ≡ false) }
     ensures memory_running { (D.view disk.old).stopped ≡ false → IsErrOf result Fault.Memory → (D.view disk.new).stopped ≡ false }
 {

@@ -1,6 +1,7 @@
 //! Opens a disk: reads or counts the records of one that is ready, and makes any other ready.
-ghost use Rattle.std.specs.Prelude.{◌≡◌, ◌≢◌, ◌⊎◌, ◌+◌, ◌-◌, ◌^◌, ◌<◌, ◌≤◌, ℕ, true, false, [], length, nat_lt, slice_index_or, IfOk, OnOk, IsErrOf};
-ghost use Rattle.disk_model.specs.Disk.{reads, IsSynced, Rose};
+ghost use Rattle.std.specs.Prelude.{◌≡◌, ◌≢◌, ◌⊎◌, ◌+◌, ◌-◌, ◌^◌, ◌<◌, ◌≤◌, ℕ, true, false, [], length, slice_index_or, IfOk, OnOk, IsErrOf};
+ghost use Rattle.disk_model.specs.Disk.{reads, IsSynced, bumped};
+ghost use Rattle.disk_model.specs.Armed.{Spends};
 ghost use Rattle.disk_model.specs.Crash.{AnyCrash};
 ghost use Rattle.journal_core.specs.Records.{payloads};
 ghost use Rattle.journal_pair.specs.Records.{is_ready, records_of};
@@ -24,14 +25,15 @@ pub(crate) fn find<D: Disk>(alloc: Global, disk: &mut D) -> Result<Found, Fault>
     ensures memory { IsErrOf result Fault.Memory → is_ready (reads (D.view disk.old)) ≡ true → (D.view disk.new).timeline ≡ (D.view disk.old).timeline }
     ensures synced { OnOk result (IsSynced (D.view disk.new)) }
     ensures memory_synced { IsErrOf result Fault.Memory → IsSynced (D.view disk.new) }
-    ensures failed { IsErrOf result Fault.Disk → Rose (D.view disk.old).faults (D.view disk.new).faults }
+    ensures failed { IsErrOf result Fault.Disk → (D.view disk.new).faults ≡ bumped (D.view disk.old).faults }
     ensures faults { (D.view disk.old).faults ≤ (D.view disk.new).faults }
     ensures no_fault { OnOk result ((D.view disk.new).faults ≡ (D.view disk.old).faults) }
     ensures no_fault_memory { IsErrOf result Fault.Memory → (D.view disk.new).faults ≡ (D.view disk.old).faults }
+    ensures word { (D.view disk.new).word ≡ (D.view disk.old).word }
     ensures armed { (D.view disk.new).armed ≤ (D.view disk.old).armed }
     ensures within { (D.view disk.old).armed ≤ (D.view disk.new).armed + 4 }
-    ensures ok_armed { OnOk result (nat_lt 0 (D.view disk.new).armed ≡ nat_lt 0 (D.view disk.old).armed) }
-    ensures memory_armed { IsErrOf result Fault.Memory → nat_lt 0 (D.view disk.new).armed ≡ nat_lt 0 (D.view disk.old).armed }
+    ensures spends { OnOk result (Spends 4 (D.view disk.old).armed (D.view disk.new).armed) }
+    ensures spends_memory { IsErrOf result Fault.Memory → Spends 4 (D.view disk.old).armed (D.view disk.new).armed }
     ensures running { OnOk result ((D.view disk.new).stopped ≡ false) }
     ensures memory_running { (D.view disk.old).stopped ≡ false → IsErrOf result Fault.Memory → (D.view disk.new).stopped ≡ false }
 {
@@ -52,14 +54,15 @@ pub(crate) fn find_count<D: Disk>(disk: &mut D) -> Result<Counted, Fault>
     ensures memory { IsErrOf result Fault.Memory → is_ready (reads (D.view disk.old)) ≡ true → (D.view disk.new).timeline ≡ (D.view disk.old).timeline }
     ensures synced { OnOk result (IsSynced (D.view disk.new)) }
     ensures memory_synced { IsErrOf result Fault.Memory → IsSynced (D.view disk.new) }
-    ensures failed { IsErrOf result Fault.Disk → Rose (D.view disk.old).faults (D.view disk.new).faults }
+    ensures failed { IsErrOf result Fault.Disk → (D.view disk.new).faults ≡ bumped (D.view disk.old).faults }
     ensures faults { (D.view disk.old).faults ≤ (D.view disk.new).faults }
     ensures no_fault { OnOk result ((D.view disk.new).faults ≡ (D.view disk.old).faults) }
     ensures no_fault_memory { IsErrOf result Fault.Memory → (D.view disk.new).faults ≡ (D.view disk.old).faults }
+    ensures word { (D.view disk.new).word ≡ (D.view disk.old).word }
     ensures armed { (D.view disk.new).armed ≤ (D.view disk.old).armed }
     ensures within { (D.view disk.old).armed ≤ (D.view disk.new).armed + 4 }
-    ensures ok_armed { OnOk result (nat_lt 0 (D.view disk.new).armed ≡ nat_lt 0 (D.view disk.old).armed) }
-    ensures memory_armed { IsErrOf result Fault.Memory → nat_lt 0 (D.view disk.new).armed ≡ nat_lt 0 (D.view disk.old).armed }
+    ensures spends { OnOk result (Spends 4 (D.view disk.old).armed (D.view disk.new).armed) }
+    ensures spends_memory { IsErrOf result Fault.Memory → Spends 4 (D.view disk.old).armed (D.view disk.new).armed }
     ensures running { OnOk result ((D.view disk.new).stopped ≡ false) }
     ensures memory_running { (D.view disk.old).stopped ≡ false → IsErrOf result Fault.Memory → (D.view disk.new).stopped ≡ false }
 {
@@ -75,11 +78,12 @@ pub(crate) fn record_of<D: Disk>(alloc: Global, disk: &mut D, i: usize) -> Resul
     requires { i < length (records_of (reads (D.view disk.old))) }
     ensures record { IfOk result (λ v. v.items ≡ slice_index_or (records_of (reads (D.view disk.old))) i []) }
     ensures same { (D.view disk.new).timeline ≡ (D.view disk.old).timeline }
-    ensures failed { IsErrOf result Fault.Disk → Rose (D.view disk.old).faults (D.view disk.new).faults }
+    ensures failed { IsErrOf result Fault.Disk → (D.view disk.new).faults ≡ bumped (D.view disk.old).faults }
     ensures faults { (D.view disk.old).faults ≤ (D.view disk.new).faults }
     ensures no_fault { OnOk result ((D.view disk.new).faults ≡ (D.view disk.old).faults) }
     ensures no_fault_memory { IsErrOf result Fault.Memory → (D.view disk.new).faults ≡ (D.view disk.old).faults }
     ensures state { ((D.view disk.new).stopped ≡ (D.view disk.old).stopped) × ((D.view disk.new).armed ≡ (D.view disk.old).armed) }
+    ensures word { (D.view disk.new).word ≡ (D.view disk.old).word }
 {
     match read_header(disk)? {
         Some((_, base)) => record_at(alloc, disk, base, i),

@@ -1,6 +1,7 @@
 //! Reads the records of an area, and closes the gate where they end.
-ghost use Rattle.std.specs.Prelude.{◌≡◌, ◌≢◌, ◌⊎◌, ◌+◌, ◌-◌, ◌^◌, ◌<◌, ◌≤◌, ℕ, false, length, drop, nat_lt, IfOk, OnOk, IsErrOf};
-ghost use Rattle.disk_model.specs.Disk.{reads, IsSynced, Rose};
+ghost use Rattle.std.specs.Prelude.{◌≡◌, ◌≢◌, ◌⊎◌, ◌+◌, ◌-◌, ◌^◌, ◌<◌, ◌≤◌, ℕ, false, length, drop, IfOk, OnOk, IsErrOf};
+ghost use Rattle.disk_model.specs.Disk.{reads, IsSynced, bumped};
+ghost use Rattle.disk_model.specs.Armed.{Spends};
 ghost use Rattle.disk_model.specs.Crash.{AnyCrash};
 ghost use Rattle.journal_core.specs.Records.{payloads};
 ghost use Rattle.journal_core.specs.Layout.{IsEnd};
@@ -35,15 +36,16 @@ pub(crate) fn scan<D: Disk>(
     ensures synced { OnOk result (IsSynced (D.view disk.new)) }
     ensures any_crash { AnyCrash (D.view disk.old).timeline (D.view disk.new).timeline (λ bytes. records_of bytes ≡ records_of (reads (D.view disk.old))) }
     ensures memory { IsErrOf result Fault.Memory → (D.view disk.new).timeline ≡ (D.view disk.old).timeline }
-    ensures failed { IsErrOf result Fault.Disk → Rose (D.view disk.old).faults (D.view disk.new).faults }
+    ensures failed { IsErrOf result Fault.Disk → (D.view disk.new).faults ≡ bumped (D.view disk.old).faults }
     ensures faults { (D.view disk.old).faults ≤ (D.view disk.new).faults }
     ensures no_fault { OnOk result ((D.view disk.new).faults ≡ (D.view disk.old).faults) }
     ensures no_fault_memory { IsErrOf result Fault.Memory → (D.view disk.new).faults ≡ (D.view disk.old).faults }
+    ensures word { (D.view disk.new).word ≡ (D.view disk.old).word }
     ensures armed { (D.view disk.new).armed ≤ (D.view disk.old).armed }
     ensures within { (D.view disk.old).armed ≤ (D.view disk.new).armed + 1 }
     ensures running { OnOk result ((D.view disk.new).stopped ≡ false) }
     ensures memory_state { IsErrOf result Fault.Memory → ((D.view disk.new).stopped ≡ (D.view disk.old).stopped) × ((D.view disk.new).armed ≡ (D.view disk.old).armed) }
-    ensures ok_armed { OnOk result (nat_lt 0 (D.view disk.new).armed ≡ nat_lt 0 (D.view disk.old).armed) }
+    ensures spends { OnOk result (Spends 1 (D.view disk.old).armed (D.view disk.new).armed) }
 {
     let (found, len) = read_records(alloc, disk, base)?;
     let area = Area { second, base, len };
@@ -62,15 +64,16 @@ pub(crate) fn count<D: Disk>(disk: &mut D, second: bool, base: u64) -> Result<Co
     ensures synced { OnOk result (IsSynced (D.view disk.new)) }
     ensures any_crash { AnyCrash (D.view disk.old).timeline (D.view disk.new).timeline (λ bytes. records_of bytes ≡ records_of (reads (D.view disk.old))) }
     ensures memory { IsErrOf result Fault.Memory → (D.view disk.new).timeline ≡ (D.view disk.old).timeline }
-    ensures failed { IsErrOf result Fault.Disk → Rose (D.view disk.old).faults (D.view disk.new).faults }
+    ensures failed { IsErrOf result Fault.Disk → (D.view disk.new).faults ≡ bumped (D.view disk.old).faults }
     ensures faults { (D.view disk.old).faults ≤ (D.view disk.new).faults }
     ensures no_fault { OnOk result ((D.view disk.new).faults ≡ (D.view disk.old).faults) }
     ensures no_fault_memory { IsErrOf result Fault.Memory → (D.view disk.new).faults ≡ (D.view disk.old).faults }
+    ensures word { (D.view disk.new).word ≡ (D.view disk.old).word }
     ensures armed { (D.view disk.new).armed ≤ (D.view disk.old).armed }
     ensures within { (D.view disk.old).armed ≤ (D.view disk.new).armed + 1 }
     ensures running { OnOk result ((D.view disk.new).stopped ≡ false) }
     ensures memory_state { IsErrOf result Fault.Memory → ((D.view disk.new).stopped ≡ (D.view disk.old).stopped) × ((D.view disk.new).armed ≡ (D.view disk.old).armed) }
-    ensures ok_armed { OnOk result (nat_lt 0 (D.view disk.new).armed ≡ nat_lt 0 (D.view disk.old).armed) }
+    ensures spends { OnOk result (Spends 1 (D.view disk.old).armed (D.view disk.new).armed) }
 {
     let (count, len) = count_records(disk, base)?;
     let area = Area { second, base, len };
@@ -88,15 +91,16 @@ fn close_end<D: Disk>(disk: &mut D, area: Area) -> Result<(), Fault>
     ensures synced { OnOk result (IsSynced (D.view disk.new)) }
     ensures any_crash { AnyCrash (D.view disk.old).timeline (D.view disk.new).timeline (λ bytes. records_of bytes ≡ records_of (reads (D.view disk.old))) }
     ensures memory { IsErrOf result Fault.Memory → (D.view disk.new).timeline ≡ (D.view disk.old).timeline }
-    ensures failed { IsErrOf result Fault.Disk → Rose (D.view disk.old).faults (D.view disk.new).faults }
+    ensures failed { IsErrOf result Fault.Disk → (D.view disk.new).faults ≡ bumped (D.view disk.old).faults }
     ensures faults { (D.view disk.old).faults ≤ (D.view disk.new).faults }
     ensures no_fault { OnOk result ((D.view disk.new).faults ≡ (D.view disk.old).faults) }
     ensures no_fault_memory { IsErrOf result Fault.Memory → (D.view disk.new).faults ≡ (D.view disk.old).faults }
+    ensures word { (D.view disk.new).word ≡ (D.view disk.old).word }
     ensures armed { (D.view disk.new).armed ≤ (D.view disk.old).armed }
     ensures within { (D.view disk.old).armed ≤ (D.view disk.new).armed + 1 }
     ensures running { OnOk result ((D.view disk.new).stopped ≡ false) }
     ensures memory_state { IsErrOf result Fault.Memory → ((D.view disk.new).stopped ≡ (D.view disk.old).stopped) × ((D.view disk.new).armed ≡ (D.view disk.old).armed) }
-    ensures ok_armed { OnOk result (nat_lt 0 (D.view disk.new).armed ≡ nat_lt 0 (D.view disk.old).armed) }
+    ensures spends { OnOk result (Spends 1 (D.view disk.old).armed (D.view disk.new).armed) }
 {
     if !gate_is_open(disk, area.base + area.len)? {
         return Ok(());
@@ -114,12 +118,13 @@ fn close_gate<D: Disk>(disk: &mut D, area: Area) -> Result<(), Fault>
     ensures synced { OnOk result (IsSynced (D.view disk.new)) }
     ensures any_crash { AnyCrash (D.view disk.old).timeline (D.view disk.new).timeline (λ bytes. records_of bytes ≡ records_of (reads (D.view disk.old))) }
     ensures memory { IsErrOf result Fault.Memory → D.view disk.new ≡ D.view disk.old }
-    ensures failed { IsErrOf result Fault.Disk → Rose (D.view disk.old).faults (D.view disk.new).faults }
+    ensures failed { IsErrOf result Fault.Disk → (D.view disk.new).faults ≡ bumped (D.view disk.old).faults }
     ensures faults { (D.view disk.old).faults ≤ (D.view disk.new).faults }
     ensures no_fault { OnOk result ((D.view disk.new).faults ≡ (D.view disk.old).faults) }
+    ensures word { (D.view disk.new).word ≡ (D.view disk.old).word }
     ensures armed { (D.view disk.new).armed ≤ (D.view disk.old).armed }
     ensures within { (D.view disk.old).armed ≤ (D.view disk.new).armed + 1 }
-    ensures ok_armed { OnOk result (nat_lt 0 (D.view disk.new).armed ≡ nat_lt 0 (D.view disk.old).armed) }
+    ensures spends { OnOk result (Spends 1 (D.view disk.old).armed (D.view disk.new).armed) }
     ensures running { OnOk result ((D.view disk.new).stopped ≡ false) }
 {
     write_synced(disk, area.base + area.len, &[CLOSED])?;

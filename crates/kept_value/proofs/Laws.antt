@@ -1,9 +1,10 @@
 -- What keeps a value, from call to call, and what a crash leaves of it.
 use Rattle.std.specs.Prelude.{◌||◌}
-use Rattle.std.proofs.Common.{◌≡◌, ◌≢◌, ◌⊎◌, inl, inr, ℕ, ◌+◌, ◌-◌, Bool, true, false, ltb, List, [], ◌∷◌, ◌++◌, length, Option, Some, None, refl, sym, ◌∙◌, ap, subst, arith, length-append}
+use Rattle.std.proofs.Common.{◌≡◌, ◌⊎◌, inl, inr, ℕ, ◌+◌, Bool, true, false, ltb, List, [], ◌∷◌, ◌++◌, length, Option, Some, None, refl, sym, ◌∙◌, ap, subst, arith, length-append}
 use Rattle.std.specs.Option.{ForSome}
 use Rattle.std.proofs.lemmas.Bool.{lt-ltb, le-ltb}
 use Rattle.disk_model.specs.Disk.{DiskView}
+use Rattle.disk_model.specs.Armed.{TakesRecord}
 use Rattle.disk_model.specs.CrashLaws.{stays, weaker, joined}
 use Rattle.journal_pair.specs.Records.{records_of}
 use Rattle.journal_pair.specs.Journal as pair
@@ -218,13 +219,8 @@ pub kept_again : {C : Type 0} (K : Kind C) (now : K.State) (rs : List (List ℕ)
 kept_again {C = C} K now rs j v is records spelled none survives = subst (λ (w : View C). IsKept K now w) (sym is) (kept_calm K now j (ap K.spelled records ∙ spelled) none survives)
 
 -- one record more
-pub adds_one : (old mid new : pair.View) (bytes : List ℕ) → mid.records ≡ old.records ++ bytes ∷ [] → (old.disk.armed ≢ 1) × (old.disk.armed ≢ 2) × (mid.disk.armed ≡ old.disk.armed - 2) → new ≡ mid → AddsOne old new
-adds_one old mid new bytes is counted same = subst (λ (w : pair.View). AddsOne old w) (sym same) (record {
-  records = ap length is ∙ length-append old.records (bytes ∷ []);
-  first = counted.0;
-  second = counted.1;
-  left = counted.2;
-})
+pub adds_one : (old mid new : pair.View) (bytes : List ℕ) → mid.records ≡ old.records ++ bytes ∷ [] → TakesRecord 0 old.disk.armed mid.disk.armed → new ≡ mid → AddsOne old new
+adds_one old mid new bytes is taken same = subst (λ (w : pair.View). AddsOne old w) (sym same) (record { records = ap length is ∙ length-append old.records (bytes ∷ []); taken = taken })
 
 -- ---- what keeps a value, from inside
 

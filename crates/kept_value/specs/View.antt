@@ -1,6 +1,7 @@
 -- A value that a journal keeps, as its callers see it, and what a crash leaves of it.
-use Rattle.std.specs.Prelude.{◌≡◌, ◌≢◌, ◌⊎◌, ℕ, ◌+◌, ◌-◌, ◌<◌, nat_lt, Bool, true, false, if◌then◌else◌, List, length, take, Option, Some, None}
+use Rattle.std.specs.Prelude.{◌≡◌, ◌⊎◌, ℕ, ◌+◌, ◌<◌, Bool, true, false, if◌then◌else◌, List, length, take, Option, Some, None}
 use Rattle.disk_model.specs.Disk.{DiskView}
+use Rattle.disk_model.specs.Armed.{Spends, TakesRecord}
 use Rattle.journal_pair.specs.Journal as pair
 
 -- How a value is kept: what it may be, what a list of records spells, which changes may be made, what follows them, and
@@ -36,17 +37,28 @@ MayFind K s v found = (done : Bool) × (v.stands ≡ true → done ≡ true) × 
 abbrev pub BeforeOrAfter : {C : Type 0} (K : Kind C) → K.State → C → List (List ℕ) → Type 0
 BeforeOrAfter K s c found = (K.spelled found ≡ Some s) ⊎ (K.spelled found ≡ Some (K.changed s c))
 
--- one record more, by two of the writes that an armed disk counts
+-- one record more, by its two writes alone
 pub record AddsOne (old new : pair.View) : Type 0 where
   pub records : length new.records ≡ length old.records + 1
-  pub first : old.disk.armed ≢ 1
-  pub second : old.disk.armed ≢ 2
-  pub left : new.disk.armed ≡ old.disk.armed - 2
+  pub taken : TakesRecord 0 old.disk.armed new.disk.armed
 
--- no fault was counted, and it is armed or not as it was
-pub record Spares (old new : DiskView) : Type 0 where
+-- No fault was counted, it wasn't reopened, and at most so many writes were taken of the count that it is armed with: it
+-- is armed or not as it was.
+pub record Spares (most : ℕ) (old new : DiskView) : Type 0 where
   pub faults : new.faults ≡ old.faults
-  pub armed : nat_lt 0 new.armed ≡ nat_lt 0 old.armed
+  pub word : new.word ≡ old.word
+  pub spends : Spends most old.armed new.armed
+
+-- A record was written, with at most so many writes more: no fault was counted, it wasn't reopened, and none of the writes
+-- was the armed one.
+pub record TakesWrite (more : ℕ) (old new : DiskView) : Type 0 where
+  pub faults : new.faults ≡ old.faults
+  pub word : new.word ≡ old.word
+  pub taken : TakesRecord more old.armed new.armed
+
+-- a disk that was to be reopened by this word was, or is as it was reopened before
+abbrev pub Tries : ℕ → DiskView → DiskView → Type 0
+Tries word old new = (new.word ≡ word) ⊎ (new.word ≡ old.word)
 
 -- the records before this one spell something, and with it nothing
 pub record IsFirstBad {C : Type 0} (K : Kind C) (records : List (List ℕ)) (index : ℕ) : Type 0 where

@@ -1,7 +1,7 @@
 //! Compacts a journal.
-ghost use Rattle.std.specs.Prelude.{◌≡◌, ◌+◌, ◌≤◌, false, true, Some, Ok, length, OnOk, OnErr};
+ghost use Rattle.std.specs.Prelude.{◌≡◌, ◌≤◌, false, true, Some, Ok, length, OnOk, OnErr};
 ghost use Rattle.std.specs.Option.{ForSome};
-ghost use Rattle.disk_model.specs.Disk.{Rose};
+ghost use Rattle.disk_model.specs.Disk.{bumped};
 ghost use Rattle.journal_pair.specs.Journal.{AnyCrashLeaves, Survives};
 ghost use Rattle.kept_value.specs.View.{Spares};
 
@@ -29,10 +29,10 @@ pub(crate) fn compact<V: KeptValue, D: Disk>(
     ensures other { ForSome journal.new.other (λ rs. V.kind.spelled rs ≡ Some (V.kind.changed (V.state value.now) change.now)) }
     ensures survives { Survives journal.new }
     ensures up { OnOk result (journal.new.shut ≡ false) }
-    ensures failed { OnErr result ((journal.new.shut ≡ true) × Rose journal.old.disk.faults journal.new.disk.faults) }
+    ensures failed { OnErr result ((journal.new.shut ≡ true) × (journal.new.disk.faults ≡ bumped journal.old.disk.faults)) }
     ensures same { V.kind.compacts change.now (length journal.old.records) ≡ false → (result ≡ Ok tt) × (journal.new ≡ journal.old) }
-    ensures spares { OnOk result (Spares journal.old.disk journal.new.disk) }
-    ensures four_writes { OnOk result (journal.old.disk.armed ≤ journal.new.disk.armed + 4) }
+    ensures spares { OnOk result (Spares 4 journal.old.disk journal.new.disk) }
+    ensures word { journal.new.disk.word ≡ journal.old.disk.word }
     ensures faults { journal.old.disk.faults ≤ journal.new.disk.faults }
     ensures armed { journal.new.disk.armed ≤ journal.old.disk.armed }
     ensures any_crash { AnyCrashLeaves journal.old.disk journal.new.disk (λ found. V.kind.spelled found ≡ Some (V.kind.changed (V.state value.now) change.now)) }

@@ -1,10 +1,10 @@
 //! What keeps a value.
 ghost use Rattle.std.specs.Prelude.{◌≡◌, ◌≢◌, ◌⊎◌, ◌+◌, ◌-◌, ◌^◌, ◌<◌, ◌≤◌, ℕ, Bool, Some, None, [], ◌∷◌, ◌++◌, length, nat_lt, true, false, if◌then◌else◌, Ok, IfOk, IfErr, OnOk, IsErrOf};
-ghost use Rattle.disk_model.specs.Disk.{reads, IsSynced, Rose};
+ghost use Rattle.disk_model.specs.Disk.{reads, IsSynced, bumped};
 ghost use Rattle.journal_pair.specs.Records.{records_of};
 ghost use Rattle.journal_pair.specs.Journal.{LeavesRecords, AnyCrashLeaves};
 ghost use Rattle.journal_pair.specs.Journal as pair;
-ghost use Rattle.kept_value.specs.View.{Kind, View, calm, reopened_by, MayFind, BeforeOrAfter, AddsOne, Spares, IsFirstBad};
+ghost use Rattle.kept_value.specs.View.{Kind, View, calm, reopened_by, MayFind, BeforeOrAfter, AddsOne, Spares, TakesWrite, Tries, IsFirstBad};
 ghost use Rattle.kept_value.specs.Keeping.{IsKept};
 
 use crate::compact::compact;
@@ -63,17 +63,17 @@ impl<V: KeptValue, D: Disk> Kept<V, D> {
         ensures opened { IfOk result (λ o. (o.kept ≡ calm o.kept.journal) × (o.kept.journal.shut ≡ false)) }
         ensures records { IfOk result (λ o. o.kept.journal.records ≡ records_of (reads (D.view disk))) }
         ensures any_crash { IfOk result (λ o. AnyCrashLeaves (D.view disk) o.kept.journal.disk (λ found. found ≡ records_of (reads (D.view disk)))) }
-        ensures spares { IfOk result (λ o. Spares (D.view disk) o.kept.journal.disk) }
 
-        // At most four writes were made, and one that failed may have been the armed one.
-        ensures four_writes { IfOk result (λ o. (D.view disk).armed ≤ o.kept.journal.disk.armed + 4) }
+        // At most four writes were made, and one that failed may have been the armed one. It is reopened by no word.
+        ensures spares { IfOk result (λ o. Spares 4 (D.view disk) o.kept.journal.disk) }
+        ensures spares_refused { IfErr result (λ e. e.fault ≢ OpenFault.Disk → IsSynced (D.view e.disk) × Spares 4 (D.view disk) (D.view e.disk)) }
         ensures four_writes_refused { IfErr result (λ e. (D.view disk).armed ≤ (D.view e.disk).armed + 4) }
         ensures armed_refused { IfErr result (λ e. (D.view e.disk).armed ≤ (D.view disk).armed) }
-        ensures spares_refused { IfErr result (λ e. e.fault ≢ OpenFault.Disk → IsSynced (D.view e.disk) × Spares (D.view disk) (D.view e.disk)) }
+        ensures word_refused { IfErr result (λ e. (D.view e.disk).word ≡ (D.view disk).word) }
 
         // The first record that is none of this kind or doesn't follow is told; a disk's fault was counted.
         ensures bad { (index : ℕ) → IfErr result (λ e. e.fault ≡ OpenFault.BadRecord index → IsFirstBad V.kind (records_of (reads (D.view disk))) index) }
-        ensures failed { IfErr result (λ e. e.fault ≡ OpenFault.Disk → Rose (D.view disk).faults (D.view e.disk).faults) }
+        ensures failed { IfErr result (λ e. e.fault ≡ OpenFault.Disk → (D.view e.disk).faults ≡ bumped (D.view disk).faults) }
         ensures faults_refused { IfErr result (λ e. (D.view disk).faults ≤ (D.view e.disk).faults) }
         ensures any_crash_refused { IfErr result (λ e. AnyCrashLeaves (D.view disk) (D.view e.disk) (λ found. found ≡ records_of (reads (D.view disk)))) }
     {
@@ -134,13 +134,13 @@ impl<V: KeptValue, D: Disk> Kept<V, D> {
         ensures sound { V.IsSound value.new }
         ensures kept { IsKept V.kind (V.state value.new) self.new }
         ensures ok { OnOk result ((V.state value.new ≡ V.kind.changed (V.state value.old) change) × (self.new ≡ calm self.new.journal) × (self.new.journal.shut ≡ false)) }
-        ensures spares { OnOk result (Spares self.old.journal.disk self.new.journal.disk) }
 
         // It is just two writes where the journal isn't compacted, and at most six where it is.
+        ensures writes { OnOk result (TakesWrite 4 self.old.journal.disk self.new.journal.disk) }
         ensures one_more { V.kind.compacts change (length self.old.journal.records + 1) ≡ false → OnOk result (AddsOne self.old.journal self.new.journal) }
-        ensures six_writes { OnOk result (self.old.journal.disk.armed ≤ self.new.journal.disk.armed + 6) }
-        ensures memory { IsErrOf result Fault.Memory → (V.state value.new ≡ V.state value.old) × (self.new ≡ record self.old { journal = record self.old.journal { disk = self.new.journal.disk } }) × Spares self.old.journal.disk self.new.journal.disk }
-        ensures disk { IsErrOf result Fault.Disk → (V.state value.new ≡ V.state value.old) × (self.new.asked ≡ Some change) × (self.new.journal.shut ≡ true) × Rose self.old.journal.disk.faults self.new.journal.disk.faults }
+        ensures memory { IsErrOf result Fault.Memory → (V.state value.new ≡ V.state value.old) × (self.new ≡ record self.old { journal = record self.old.journal { disk = self.new.journal.disk } }) × Spares 1 self.old.journal.disk self.new.journal.disk }
+        ensures disk { IsErrOf result Fault.Disk → (V.state value.new ≡ V.state value.old) × (self.new.asked ≡ Some change) × (self.new.journal.shut ≡ true) × (self.new.journal.disk.faults ≡ bumped self.old.journal.disk.faults) }
+        ensures word { self.new.journal.disk.word ≡ self.old.journal.disk.word }
         ensures faults { self.old.journal.disk.faults ≤ self.new.journal.disk.faults }
         ensures armed { self.new.journal.disk.armed ≤ self.old.journal.disk.armed }
 
@@ -172,11 +172,11 @@ impl<V: KeptValue, D: Disk> Kept<V, D> {
         ensures sound { V.IsSound value.new }
         ensures kept { IsKept V.kind (V.state value.new) self.new }
         ensures ok { OnOk result ((V.state value.new ≡ V.kind.changed (V.state value.old) change) × (self.new ≡ calm self.new.journal) × (self.new.journal.shut ≡ false)) }
-        ensures spares { OnOk result (Spares self.old.journal.disk self.new.journal.disk) }
+        ensures spares { OnOk result (Spares 4 self.old.journal.disk self.new.journal.disk) }
         ensures same { V.kind.compacts change (length self.old.journal.records) ≡ false → (result ≡ Ok tt) × (self.new.journal ≡ self.old.journal) }
-        ensures four_writes { OnOk result (self.old.journal.disk.armed ≤ self.new.journal.disk.armed + 4) }
         ensures memory { IsErrOf result Fault.Memory → ⊥ }
-        ensures disk { IsErrOf result Fault.Disk → (V.state value.new ≡ V.state value.old) × (self.new.asked ≡ Some change) × (self.new.journal.shut ≡ true) × Rose self.old.journal.disk.faults self.new.journal.disk.faults }
+        ensures disk { IsErrOf result Fault.Disk → (V.state value.new ≡ V.state value.old) × (self.new.asked ≡ Some change) × (self.new.journal.shut ≡ true) × (self.new.journal.disk.faults ≡ bumped self.old.journal.disk.faults) }
+        ensures word { self.new.journal.disk.word ≡ self.old.journal.disk.word }
         ensures faults { self.old.journal.disk.faults ≤ self.new.journal.disk.faults }
         ensures armed { self.new.journal.disk.armed ≤ self.old.journal.disk.armed }
         ensures any_crash { AnyCrashLeaves self.old.journal.disk self.new.journal.disk (λ found. V.kind.spelled found ≡ Some (V.kind.changed (V.state value.old) change)) }
@@ -209,7 +209,12 @@ impl<V: KeptValue, D: Disk> Kept<V, D> {
         ensures no_fault { OnOk result (self.new.journal.disk.faults ≡ self.old.journal.disk.faults) }
         ensures disarmed { OnOk result (self.new.journal.disk.armed ≡ 0) }
         ensures memory { IsErrOf result Fault.Memory → (V.state value.new ≡ V.state value.old) × (self.new ≡ record self.old { journal = record self.old.journal { disk = self.new.journal.disk } }) × (self.new.journal.disk.faults ≡ self.old.journal.disk.faults) }
-        ensures disk { IsErrOf result Fault.Disk → (V.state value.new ≡ V.state value.old) × (self.new ≡ record self.old { journal = record self.old.journal { shut = true; disk = self.new.journal.disk } }) × Rose self.old.journal.disk.faults self.new.journal.disk.faults }
+        ensures disk { IsErrOf result Fault.Disk → (V.state value.new ≡ V.state value.old) × (self.new ≡ record self.old { journal = record self.old.journal { shut = true; disk = self.new.journal.disk } }) × (self.new.journal.disk.faults ≡ bumped self.old.journal.disk.faults) }
+
+        // Its disk was reopened by the word; where memory was wanting or the disk failed it may not have been.
+        ensures word { OnOk result (self.new.journal.disk.word ≡ word) }
+        ensures word_memory { IsErrOf result Fault.Memory → Tries word self.old.journal.disk self.new.journal.disk }
+        ensures word_disk { IsErrOf result Fault.Disk → Tries word self.old.journal.disk self.new.journal.disk }
         ensures faults { self.old.journal.disk.faults ≤ self.new.journal.disk.faults }
         ensures armed { self.new.journal.disk.armed ≤ self.old.journal.disk.armed }
 

@@ -1,5 +1,5 @@
 -- A store, and what waits in the engines over it, as one replica.
-use Rattle.std.specs.Prelude.{◌≡◌, ◌&&◌, not, nat_lt, ℕ, List, Some}
+use Rattle.std.specs.Prelude.{◌≡◌, if◌then◌else◌, ℕ, List, Some}
 use Rattle.std.specs.Option.{option_map}
 use Rattle.delos_types.specs.declared.item.Item.{Item}
 use Rattle.journal_pair.specs.Records.{records_of}
@@ -13,20 +13,23 @@ use Rattle.replica_api.specs.Replica.{Meaning, Saved, ReplicaView}
 abbrev pub pair_of : spelled.Saved → Saved
 pair_of s = record { cursor = s.cursor; contents = s.contents }
 
--- The store of a node, what waits in its lowest engine, and what the last stop or reopening was told. What the disk failed
--- to keep is what the transaction led to; the disk is armed where some write of it is to stop, unless the store is down.
-abbrev pub shown : store.View → ℕ → List Item → ℕ → ReplicaView
-shown v origin waiting told = record {
+-- The store of a node, what waits in its lowest engine, and how many stops and reopenings it was told. What the disk failed
+-- to keep is what the transaction led to; the disk's count is shown while the store is up.
+abbrev pub shown : store.View → ℕ → List Item → ℕ → ℕ → ReplicaView
+shown v origin waiting stops reopenings = record {
   cursor = v.cursor;
   contents = v.contents;
   asked = option_map (λ c. pair_of (committed (store.saved_in v) c)) v.asked;
+  stands = v.stands;
   down = v.down;
   disk = v.disk.timeline;
   faults = v.disk.faults;
   origin = origin;
   kept = waiting;
-  armed = not v.down && nat_lt 0 v.disk.armed;
-  told = told;
+  armed = if v.down then 0 else v.disk.armed;
+  word = v.disk.word;
+  stops = stops;
+  reopenings = reopenings;
 }
 
 -- the records of a disk with these bytes spell this cursor and this space

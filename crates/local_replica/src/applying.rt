@@ -4,6 +4,7 @@ ghost use Rattle.delos_types.specs.declared.entry.Entry.{Entry};
 ghost use Rattle.delos_types.specs.declared.item.Item.{Item};
 ghost use Rattle.disk_model.specs.Crash.{AnyCrash};
 ghost use Rattle.log_laws.specs.State.{IsStateOf};
+ghost use Rattle.local_store.specs.View as view;
 ghost use Rattle.store_records.specs.Changing.{applied};
 ghost use Rattle.replica_api.specs.Replica.{SpellsOne, Survives, Advances, Takes, MayFind, MayFindDuring, Reopens, armed_by};
 ghost use Rattle.local_replica.specs.Shown.{shown, Spells};
@@ -29,9 +30,9 @@ pub(crate) fn apply<E: Layers, D: Disk>(
 ) -> Applied
     requires kinds { E.kinds engines.old ≡ 1 ∷ 2 ∷ 3 ∷ 4 ∷ 5 ∷ [] }
     requires cursor { store.old.cursor + 1 < 2 ^ 64 }
-    ensures takes { (told : ℕ) → Takes IsStateOf (shown store.old origin (E.waiting engines.old) told) entry.now result (shown store.new origin (E.waiting engines.new) told) }
-    ensures survives { (told : ℕ) → Survives Spells (shown store.new origin (E.waiting engines.new) told) }
-    ensures any_crash { (told : ℕ) → AnyCrash store.old.disk.timeline store.new.disk.timeline (SpellsOne Spells (MayFindDuring IsStateOf (shown store.old origin (E.waiting engines.old) told) entry.now)) }
+    ensures takes { (stops reopenings : ℕ) → Takes IsStateOf (shown store.old origin (E.waiting engines.old) stops reopenings) entry.now result (shown store.new origin (E.waiting engines.new) stops reopenings) }
+    ensures survives { (stops reopenings : ℕ) → Survives Spells (shown store.new origin (E.waiting engines.new) stops reopenings) }
+    ensures any_crash { (stops reopenings : ℕ) → AnyCrash store.old.disk.timeline store.new.disk.timeline (SpellsOne Spells (MayFindDuring IsStateOf (shown store.old origin (E.waiting engines.old) stops reopenings) entry.now)) }
     ensures kinds { E.kinds engines.new ≡ E.kinds engines.old }
 {
     if is_down(store) {
@@ -48,7 +49,7 @@ pub(crate) fn apply<E: Layers, D: Disk>(
 
 fn is_down<D: Disk>(store: &Store<D>) -> bool
     ensures down { result ≡ store.now.down }
-    ensures survives { (origin : ℕ) (waiting : List Item) (told : ℕ) → Survives Spells (shown store.now origin waiting told) }
+    ensures survives { view.Survives store.now }
 {
     store.is_down()
 }
@@ -97,9 +98,9 @@ fn begin<E: Layers, D: Disk>(
 /// The transaction is kept with the next cursor.
 fn keep<D: Disk>(store: &mut Store<D>, txn: Txn) -> Applied
     requires { store.old.cursor + 1 < 2 ^ 64 }
-    ensures takes { (origin : ℕ) (waiting : List Item) (told : ℕ) (e : Entry) → store.old.down ≡ false → Advances IsStateOf store.old.contents store.old.cursor e (applied store.old.contents txn.changes) → Takes IsStateOf (shown store.old origin waiting told) e result (shown store.new origin waiting told) }
-    ensures survives { (origin : ℕ) (waiting : List Item) (told : ℕ) → Survives Spells (shown store.new origin waiting told) }
-    ensures any_crash { (origin : ℕ) (waiting : List Item) (told : ℕ) (e : Entry) → Advances IsStateOf store.old.contents store.old.cursor e (applied store.old.contents txn.changes) → AnyCrash store.old.disk.timeline store.new.disk.timeline (SpellsOne Spells (MayFindDuring IsStateOf (shown store.old origin waiting told) e)) }
+    ensures takes { (origin : ℕ) (waiting : List Item) (stops reopenings : ℕ) (e : Entry) → store.old.down ≡ false → Advances IsStateOf store.old.contents store.old.cursor e (applied store.old.contents txn.changes) → Takes IsStateOf (shown store.old origin waiting stops reopenings) e result (shown store.new origin waiting stops reopenings) }
+    ensures survives { (origin : ℕ) (waiting : List Item) (stops reopenings : ℕ) → Survives Spells (shown store.new origin waiting stops reopenings) }
+    ensures any_crash { (origin : ℕ) (waiting : List Item) (stops reopenings : ℕ) (e : Entry) → Advances IsStateOf store.old.contents store.old.cursor e (applied store.old.contents txn.changes) → AnyCrash store.old.disk.timeline store.new.disk.timeline (SpellsOne Spells (MayFindDuring IsStateOf (shown store.old origin waiting stops reopenings) e)) }
 {
     let next = store.cursor() + 1;
     match store.commit(txn, next) {
@@ -127,30 +128,34 @@ fn tell<E: Layers>(
     }
 }
 
-/// Opens the store again. The word is the last that was told, unless there was no memory.
-pub(crate) fn reopen<D: Disk>(store: &mut Store<D>, told: &mut u64, word: u64) -> Reopened
-    ensures reopens { (origin : ℕ) (waiting : List Item) → Reopens (shown store.old origin waiting told.old) word result (shown store.new origin waiting told.new) }
-    ensures survives { (origin : ℕ) (waiting : List Item) → Survives Spells (shown store.new origin waiting told.new) }
-    ensures any_crash { (origin : ℕ) (waiting : List Item) → AnyCrash store.old.disk.timeline store.new.disk.timeline (SpellsOne Spells (MayFind (shown store.old origin waiting told.old))) }
+/// Opens the store again, where it is down. It is counted, unless there was no memory.
+pub(crate) fn reopen<D: Disk>(store: &mut Store<D>, reopenings: &mut u64, word: u64) -> Reopened
+    ensures reopens { (origin : ℕ) (waiting : List Item) (stops : ℕ) → Reopens (shown store.old origin waiting stops reopenings.old) word result (shown store.new origin waiting stops reopenings.new) }
+    ensures survives { (origin : ℕ) (waiting : List Item) (stops : ℕ) → Survives Spells (shown store.new origin waiting stops reopenings.new) }
+    ensures any_crash { (origin : ℕ) (waiting : List Item) (stops : ℕ) → AnyCrash store.old.disk.timeline store.new.disk.timeline (SpellsOne Spells (MayFind (shown store.old origin waiting stops reopenings.old))) }
 {
+    if !is_down(store) {
+        *reopenings = reopenings.saturating_add(1);
+        return Reopened::Done;
+    }
     match store.reopen(word) {
         Ok(()) => {
-            *told = word;
+            *reopenings = reopenings.saturating_add(1);
             Reopened::Done
         }
         Err(Fault::Disk) => {
-            *told = word;
+            *reopenings = reopenings.saturating_add(1);
             Reopened::DiskFault
         }
         Err(Fault::Memory) => Reopened::Memory,
     }
 }
 
-/// Arms the disk, where the store is up. The count is the last that was told.
-pub(crate) fn stop<D: Disk>(store: &mut Store<D>, told: &mut u64, after: u64)
-    ensures shows { (origin : ℕ) (waiting : List Item) → shown store.new origin waiting told.new ≡ armed_by (shown store.old origin waiting told.old) after }
+/// Arms the disk, where the store is up. It is counted in any case.
+pub(crate) fn stop<D: Disk>(store: &mut Store<D>, stops: &mut u64, after: u64)
+    ensures shows { (origin : ℕ) (waiting : List Item) (reopenings : ℕ) → shown store.new origin waiting stops.new reopenings ≡ armed_by (shown store.old origin waiting stops.old reopenings) after }
     ensures arms { store.old.down ≡ false → store.new.disk ≡ record store.old.disk { armed = after } }
 {
     store.stop(after);
-    *told = after;
+    *stops = stops.saturating_add(1);
 }

@@ -26,8 +26,9 @@ pub struct LocalReplica<E: Layers, D: Disk> {
     // Whether the engines go on from what the store shows.
     loaded: bool,
     store: Store<D>,
-    // The count of the last stop, or the word of the last reopening, whichever came later.
-    told: u64,
+    // How many stops it was told, and how many reopenings that had memory.
+    stops: u64,
+    reopenings: u64,
     ghost kinds: { E.kinds engines ≡ 1 ∷ 2 ∷ 3 ∷ 4 ∷ 5 ∷ [] },
 }
 
@@ -38,7 +39,7 @@ impl<E: Layers, D: Disk> LocalReplica<E, D> {
         ensures store { result.store ≡ store }
         ensures engines { result.engines ≡ engines }
         ensures origin { result.origin ≡ origin }
-        ensures told { result.told ≡ 0 }
+        ensures none_told { (result.stops ≡ 0) × (result.reopenings ≡ 0) }
     {
         LocalReplica {
             alloc,
@@ -46,7 +47,8 @@ impl<E: Layers, D: Disk> LocalReplica<E, D> {
             engines,
             loaded: false,
             store,
-            told: 0,
+            stops: 0,
+            reopenings: 0,
         }
     }
 
@@ -62,14 +64,15 @@ impl<E: Layers, D: Disk> LocalReplica<E, D> {
             engines,
             loaded: _,
             store,
-            told: _,
+            stops: _,
+            reopenings: _,
         } = self;
         (engines, store)
     }
 }
 
 impl<E: Layers, D: Disk> Replica for LocalReplica<E, D> {
-    ghost shows = { λ r. shown r.store r.origin (E.waiting r.engines) r.told };
+    ghost shows = { λ r. shown r.store r.origin (E.waiting r.engines) r.stops r.reopenings };
 
     ghost meaning = { local_meaning };
 
@@ -96,7 +99,7 @@ impl<E: Layers, D: Disk> Replica for LocalReplica<E, D> {
 
     fn reopen(&mut self, word: u64) -> Reopened {
         self.loaded = false;
-        reopen(&mut self.store, &mut self.told, word)
+        reopen(&mut self.store, &mut self.reopenings, word)
     }
 
     fn send(&mut self, item: Item) -> Result<Option<Entry>, AllocError> {
@@ -108,7 +111,7 @@ impl<E: Layers, D: Disk> Replica for LocalReplica<E, D> {
     }
 
     fn stop(&mut self, after: u64) {
-        stop(&mut self.store, &mut self.told, after);
+        stop(&mut self.store, &mut self.stops, after);
     }
 
     fn last_rank(&self, session: SessionId) -> Result<u64, AllocError> {

@@ -1,6 +1,6 @@
 -- What is kept and what the records spell stay together, and what a crash leaves of them.
-use Rattle.std.proofs.Common.{◌≡◌, ℕ, ◌+◌, ◌≤◌, ◌<◌, ◌⊎◌, inl, inr, Bool, true, false, cond, leb, List, [], ◌∷◌, ◌++◌, length, take, slice_index_or, Option, Some, None, refl, sym, ap, subst, ◌∙◌, arith, Vec, Global}
-use Rattle.std.specs.Prelude.{nat_lt}
+use Rattle.std.proofs.Common.{◌≡◌, ℕ, ◌+◌, ◌≤◌, ◌<◌, ◌⊎◌, inl, inr, Bool, true, false, cond, leb, List, [], ◌∷◌, ◌++◌, length, take, slice_index_or, Option, Some, None, Result, Err, refl, sym, ap, subst, ◌∙◌, arith, Vec, Global}
+use Rattle.std.specs.Prelude.{nat_lt, IsSome, IsErrOf}
 use Rattle.std.proofs.lemmas.Bool.{leb-true, le-ltb}
 use Rattle.std.proofs.lemmas.List.{take_more}
 use Rattle.disk_model.specs.Disk.{DiskView, reads, IsSynced}
@@ -10,7 +10,10 @@ use Rattle.disk_model.proofs.Tear.{synced_is}
 use Rattle.journal_core.specs.Records.{payloads}
 use Rattle.journal_core.proofs.Reading.{now_has}
 use Rattle.journal_pair.specs.Records.{records_of}
+use Rattle.journal_core.specs.declared.fault.Fault.{Fault}
+use Rattle.journal_core.specs.declared.fault.Fault.TheVariants as fault
 use Rattle.journal_pair.specs.Journal.{LeavesRecords}
+use Rattle.journal_pair.specs.Journal as pair
 use Rattle.kept_value.specs.View as value
 use Rattle.kept_value.specs.Keeping as keeping
 use Rattle.kept_value.proofs.Laws.{kept_left, spelled_now}
@@ -85,6 +88,10 @@ shows_before : (s : Saved) (asked : Option Commit) → s ≡ reopened_by s false
 shows_before s None = refl
 shows_before s (Some c) = refl
 
+some_asked : (asked : Option Asked) → IsSome asked → IsSome (asked_of asked)
+some_asked None is = is
+some_asked (Some a) is = refl
+
 module _ (b : Base) (k : value.View Asked) where
   pub may_find : (found : List (List ℕ)) → value.MayFind base_kind (saved_by b) k found → MayFind (view_of b k) found
   may_find found m = (m.0, m.2 ∙ ap Some (shows_by (saved_by b) k.asked m.0))
@@ -92,6 +99,8 @@ module _ (b : Base) (k : value.View Asked) where
   pub kept_survives : IsKept b k → Survives (view_of b k)
   kept_survives i = record {
     whole = λ up. ap asked_of (i.kept.whole up);
+    settled = i.kept.settled;
+    standing = λ stands. some_asked k.asked (i.standing stands);
     running = λ up. i.kept.survives.running up;
     left = λ image is. may_find (records_of image) (kept_left base_kind (saved_by b) k i.kept image is);
   }
@@ -148,18 +157,41 @@ made_fit base made (inr same) fit = subst AreFit (sym same.0) fit
 pub made_kept : (base made : Base) (k : value.View Asked) → IsMade base made → IsKept base k → keeping.IsKept base_kind (saved_by made) k
 made_kept base made k is i = subst (λ (s : Saved). keeping.IsKept base_kind s k) (sym (same_saved base made is)) i.kept
 
+-- where the record of a transaction stands there is one
+abbrev pub IsStanding : value.View Asked → Type 0
+IsStanding k = k.stands ≡ true → IsSome k.asked
+
+pub standing_calm : (k : value.View Asked) → k ≡ value.calm k.journal → IsStanding k
+standing_calm k calm stands = absurd (apart (sym (ap (λ (x : value.View Asked). x.stands) calm) ∙ stands))
+  where
+    apart : false ≡ true → ⊥
+    apart e = cc
+
+pub standing_asked : (k : value.View Asked) (a : Asked) → k.asked ≡ Some a → IsStanding k
+standing_asked k a is stands = subst (λ (o : Option Asked). IsSome o) (sym is) refl
+
+pub standing_same : (k new : value.View Asked) (j : pair.View) → new ≡ record k { journal = j } → IsStanding k → IsStanding new
+standing_same k new j same standing stands =
+    subst (λ (o : Option Asked). IsSome o) (sym (ap (λ (x : value.View Asked). x.asked) same)) (standing (sym (ap (λ (x : value.View Asked). x.stands) same) ∙ stands))
+
+-- a reopening is refused for want of memory, or by the disk
+pub by_fault : {P : Type 0} (r : Result (Unit {0}) Fault) (e : Fault) → r ≡ Err e → (IsErrOf r fault.Memory → P) → (IsErrOf r fault.Disk → P) → P
+by_fault r fault.Memory is memory failed = memory is
+by_fault r fault.Disk is memory failed = failed is
+
 -- what is kept then
-pub kept_now : (last b : Base) (k : value.View Asked) → last ≡ b → AreFit b.slots.entries → keeping.IsKept base_kind (saved_by b) k → IsKept last k
-kept_now last b k end fit kept = subst (λ (x : Base). IsKept x k) (sym end) (record { fit = fit; kept = kept })
+pub kept_now : (last b : Base) (k : value.View Asked) → last ≡ b → AreFit b.slots.entries → IsStanding k → keeping.IsKept base_kind (saved_by b) k → IsKept last k
+kept_now last b k end fit standing kept = subst (λ (x : Base). IsKept x k) (sym end) (record { fit = fit; standing = standing; kept = kept })
 
 -- what callers see then
-pub seen_with : (last b : Base) (k : value.View Asked) (s : Saved) (asked : Option Commit) (down : Bool) → last ≡ b → saved_by b ≡ s → asked_of k.asked ≡ asked → k.journal.shut ≡ down →
-    view_of last k ≡ record { cursor = s.cursor; contents = s.contents; asked = asked; down = down; disk = k.journal.disk }
-seen_with last b k s asked down end saved is shut =
+pub seen_with : (last b : Base) (k : value.View Asked) (s : Saved) (asked : Option Commit) (stands down : Bool) → last ≡ b → saved_by b ≡ s → asked_of k.asked ≡ asked → k.stands ≡ stands → k.journal.shut ≡ down →
+    view_of last k ≡ record { cursor = s.cursor; contents = s.contents; asked = asked; stands = stands; down = down; disk = k.journal.disk }
+seen_with last b k s asked stands down end saved is standing shut =
     ap (λ (x : Base). view_of x k) end
-    ∙ ap (λ (x : Saved). record { cursor = x.cursor; contents = x.contents; asked = asked_of k.asked; down = k.journal.shut; disk = k.journal.disk }) saved
-    ∙ ap (λ (o : Option Commit). record { cursor = s.cursor; contents = s.contents; asked = o; down = k.journal.shut; disk = k.journal.disk }) is
-    ∙ ap (λ (d : Bool). record { cursor = s.cursor; contents = s.contents; asked = asked; down = d; disk = k.journal.disk }) shut
+    ∙ ap (λ (x : Saved). record { cursor = x.cursor; contents = x.contents; asked = asked_of k.asked; stands = k.stands; down = k.journal.shut; disk = k.journal.disk }) saved
+    ∙ ap (λ (o : Option Commit). record { cursor = s.cursor; contents = s.contents; asked = o; stands = k.stands; down = k.journal.shut; disk = k.journal.disk }) is
+    ∙ ap (λ (t : Bool). record { cursor = s.cursor; contents = s.contents; asked = asked; stands = t; down = k.journal.shut; disk = k.journal.disk }) standing
+    ∙ ap (λ (d : Bool). record { cursor = s.cursor; contents = s.contents; asked = asked; stands = stands; down = d; disk = k.journal.disk }) shut
 
 -- what callers saw before
 pub seen_before : (base made : Base) (k : value.View Asked) (now : View) → IsMade base made → view_of base k ≡ now → saved_by made ≡ saved_in now
@@ -172,13 +204,12 @@ all_there : (s : Saved) (k : value.View Asked) → keeping.IsKept base_kind s k 
 all_there s k kept running = ap length (now_has k.journal.disk.timeline.now _ (kept.survives.exact running))
 
 pub counts_writes : (s : Saved) (k new : value.View Asked) → keeping.IsKept base_kind s k → k.journal.shut ≡ false →
-    (nat_lt most_records (length k.journal.records + 1) ≡ false → value.AddsOne k.journal new.journal) → k.journal.disk.armed ≤ new.journal.disk.armed + 6 → CountsWrites k.journal.disk new.journal.disk
-counts_writes s k new kept running one six = record {
+    (nat_lt most_records (length k.journal.records + 1) ≡ false → value.AddsOne k.journal new.journal) → value.TakesWrite 4 k.journal.disk new.journal.disk → CountsWrites k.journal.disk new.journal.disk
+counts_writes s k new kept running one writes = record {
   two = λ few.
       let all = all_there s k kept running in
-      let added = one (le-ltb most_records (length k.journal.records + 1) (omega (arith, few, all))) in
-      (added.first, added.second, added.left);
-  six = six;
+      (one (le-ltb most_records (length k.journal.records + 1) (omega (arith, few, all)))).taken;
+  six = writes.taken;
 }
 
 pub counts_records : (b : Base) (k : value.View Asked) (now : View) → IsKept b k → view_of b k ≡ now → (n : ℕ) → n ≡ length k.journal.records → now.down ≡ false → n ≡ length (records_of (reads now.disk))

@@ -48,4 +48,4 @@ timeline_code =
 
 abbrev pub disk_code : Coded DiskView
 disk_code =
-    code_by (Timeline × (ℕ × (Bool × ℕ))) (coded× timeline_code (coded× coded_ℕ (coded× coded_bool coded_ℕ))) (λ v. (v.timeline, (v.faults, (v.stopped, v.armed)))) (λ p. record { timeline = p.0; faults = p.1.0; stopped = p.1.1.0; armed = p.1.1.1 }) (λ _. refl)
+    code_by (Timeline × (ℕ × (Bool × (ℕ × ℕ)))) (coded× timeline_code (coded× coded_ℕ (coded× coded_bool (coded× coded_ℕ coded_ℕ)))) (λ v. (v.timeline, (v.faults, (v.stopped, (v.armed, v.word))))) (λ p. record { timeline = p.0; faults = p.1.0; stopped = p.1.1.0; armed = p.1.1.1.0; word = p.1.1.1.1 }) (λ _. refl)

@@ -1,5 +1,5 @@
 -- What a store and a transaction keep in memory, and how that and what keeps it belong together.
-use Rattle.std.specs.Prelude.{◌≤◌, ℕ, nat_lt, Option, Some, None}
+use Rattle.std.specs.Prelude.{◌≡◌, ◌≤◌, ℕ, nat_lt, true, Option, Some, None, IsSome}
 use Rattle.std.specs.List.Sorted.{IsStrictlySortedBy}
 use Rattle.std.specs.Map.{keys_of}
 use Rattle.kept_value.specs.View.{Kind}
@@ -55,9 +55,10 @@ base_kind = record {
 
 -- what callers see
 abbrev pub view_of : Base → value.View Asked → View
-view_of b k = record { cursor = b.cursor; contents = held b.slots.entries; asked = asked_of k.asked; down = k.journal.shut; disk = k.journal.disk }
+view_of b k = record { cursor = b.cursor; contents = held b.slots.entries; asked = asked_of k.asked; stands = k.stands; down = k.journal.shut; disk = k.journal.disk }
 
 -- the space and the cursor, and what keeps them
 pub record IsKept (b : Base) (k : value.View Asked) : Type 0 where
   pub fit : AreFit b.slots.entries
+  pub standing : k.stands ≡ true → IsSome k.asked
   pub kept : keeping.IsKept base_kind (saved_by b) k

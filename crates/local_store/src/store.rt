@@ -1,6 +1,7 @@
 //! A store over its disk.
-ghost use Rattle.std.specs.Prelude.{◌≡◌, ◌≢◌, ◌⊎◌, ℕ, ◌+◌, ◌-◌, ◌≤◌, ◌↔◌, nat_lt, Bool, true, false, Some, None, Ok, [], IfOk, IfErr, OnOk, IsErrOf, length, if◌then◌else◌};
-ghost use Rattle.disk_model.specs.Disk.{reads, IsSynced, Rose};
+ghost use Rattle.std.specs.Prelude.{◌≡◌, ◌≢◌, ◌⊎◌, ℕ, ◌+◌, ◌≤◌, ◌↔◌, Bool, true, false, Some, None, Ok, [], IfOk, IfErr, OnOk, IsErrOf, length, if◌then◌else◌};
+ghost use Rattle.disk_model.specs.Disk.{reads, IsSynced, bumped};
+ghost use Rattle.disk_model.specs.Armed.{Spends};
 ghost use Rattle.journal_pair.specs.Records.{records_of};
 ghost use Rattle.journal_pair.specs.Journal.{LeavesRecords, AnyCrashLeaves};
 ghost use Rattle.store_records.specs.Spelled.{nothing_saved, committed, saved_of, IsFirstBad};
@@ -21,8 +22,8 @@ use std::sync::Arc;
 
 /// The space of a node and a cursor, over a journal of two areas on a disk.
 ///
-/// Contracts see it as a `View`: the cursor and the space; the transaction in which the disk failed; whether it is down;
-/// and its disk. A crash leaves what a reopening may find, and while the store is up just what it shows.
+/// Contracts see it as a `View`: the cursor and the space; the transaction in which the disk failed, and whether its record
+/// stands; whether it is down; and its disk. A crash leaves what a reopening may find, and while the store is up just what it shows.
 ///
 /// Memory: the space. The records of the transactions stand on the disk alone, and a transaction after which there are more
 /// than 256 of them puts one in their place, by which each key that has a value gets it.
@@ -61,17 +62,18 @@ impl<D: Disk> Store<D> {
         ensures survives { IfOk result Survives }
         ensures any_crash { IfOk result (λ s. AnyCrashLeaves (D.view disk) s.disk (λ found. found ≡ records_of (reads (D.view disk)))) }
         ensures faults { IfOk result (λ s. s.disk.faults ≡ (D.view disk).faults) }
+        ensures word { IfOk result (λ s. s.disk.word ≡ (D.view disk).word) }
 
         // At most four writes were made: it is armed where it was, and one that fails may have reached the armed write.
-        ensures four_writes { IfOk result (λ s. (D.view disk).armed ≤ s.disk.armed + 4) }
-        ensures still_armed { IfOk result (λ s. nat_lt 0 s.disk.armed ≡ nat_lt 0 (D.view disk).armed) }
+        ensures spends { IfOk result (λ s. Spends 4 (D.view disk).armed s.disk.armed) }
         ensures four_writes_refused { IfErr result (λ e. (D.view disk).armed ≤ (D.view e.disk).armed + 4) }
-        ensures armed_refused { IfErr result (λ e. e.fault ≢ OpenFault.Disk → nat_lt 0 (D.view e.disk).armed ≡ nat_lt 0 (D.view disk).armed) }
+        ensures spends_refused { IfErr result (λ e. e.fault ≢ OpenFault.Disk → Spends 4 (D.view disk).armed (D.view e.disk).armed) }
+        ensures word_refused { IfErr result (λ e. (D.view e.disk).word ≡ (D.view disk).word) }
         ensures no_fault_refused { IfErr result (λ e. e.fault ≢ OpenFault.Disk → (D.view e.disk).faults ≡ (D.view disk).faults) }
 
         // The first record that is none of a store's or whose cursor falls is told; a disk's fault was counted.
         ensures bad { (index : ℕ) → IfErr result (λ e. e.fault ≡ OpenFault.BadRecord index → IsFirstBad (records_of (reads (D.view disk))) index) }
-        ensures failed { IfErr result (λ e. e.fault ≡ OpenFault.Disk → Rose (D.view disk).faults (D.view e.disk).faults) }
+        ensures failed { IfErr result (λ e. e.fault ≡ OpenFault.Disk → (D.view e.disk).faults ≡ bumped (D.view disk).faults) }
         ensures any_crash_refused { IfErr result (λ e. AnyCrashLeaves (D.view disk) (D.view e.disk) (λ found. found ≡ records_of (reads (D.view disk)))) }
     {
         let Opened { kept, value } = Kept::open_on(alloc, disk)?;
@@ -93,21 +95,22 @@ impl<D: Disk> Store<D> {
         requires synced { IsSynced (D.view disk) }
         requires empty { records_of (reads (D.view disk)) ≡ [] }
         ensures start { IfOk result (λ s. saved_in s ≡ nothing_saved) }
-        ensures none_asked { IfOk result (λ s. s.asked ≡ None) }
+        ensures none_asked { IfOk result (λ s. (s.asked ≡ None) × (s.stands ≡ false)) }
         ensures survives { IfOk result Survives }
         ensures any_crash { IfOk result (λ s. AnyCrashLeaves (D.view disk) s.disk (λ found. found ≡ [])) }
+        ensures word { IfOk result (λ s. s.disk.word ≡ (D.view disk).word) }
         ensures faults { IfOk result (λ s. (D.view disk).faults ≤ s.disk.faults) }
 
         // It is down just where the disk failed, and then that was counted.
-        ensures down { IfOk result (λ s. s.down ≡ true → Rose (D.view disk).faults s.disk.faults) }
+        ensures down { IfOk result (λ s. s.down ≡ true → s.disk.faults ≡ bumped (D.view disk).faults) }
         ensures up { IfOk result (λ s. s.down ≡ false → s.disk.faults ≡ (D.view disk).faults) }
-        ensures still_armed { IfOk result (λ s. s.down ≡ false → nat_lt 0 s.disk.armed ≡ nat_lt 0 (D.view disk).armed) }
+        ensures spends { IfOk result (λ s. s.down ≡ false → Spends 4 (D.view disk).armed s.disk.armed) }
         ensures four_writes { IfOk result (λ s. (D.view disk).armed ≤ s.disk.armed + 4) }
 
         // The disk that comes back is one on which a store may be begun, and no fault of it was counted.
         ensures synced_back { IfErr result (λ d. IsSynced (D.view d)) }
         ensures empty_back { IfErr result (λ d. records_of (reads (D.view d)) ≡ []) }
-        ensures memory { IfErr result (λ d. Spares (D.view disk) (D.view d)) }
+        ensures memory { IfErr result (λ d. Spares 4 (D.view disk) (D.view d)) }
         ensures any_crash_back { IfErr result (λ d. AnyCrashLeaves (D.view disk) (D.view d) (λ found. found ≡ [])) }
     {
         let Ok(base) = Arc::new(alloc, Base::new(alloc)) else {
@@ -145,7 +148,7 @@ impl<D: Disk> Store<D> {
         ensures down { IsErrOf result CommitFault.Down ↔ (self.old.down ≡ true) }
         ensures down_same { IsErrOf result CommitFault.Down → self.new ≡ self.old }
         ensures memory { IsErrOf result CommitFault.Memory → self.new ≡ record self.old { disk = self.new.disk } }
-        ensures disk { IsErrOf result CommitFault.Disk → (self.new ≡ record self.old { asked = Some (txn_commit cursor txn); down = true; disk = self.new.disk }) × Rose self.old.disk.faults self.new.disk.faults }
+        ensures disk { IsErrOf result CommitFault.Disk → (self.new ≡ record self.old { asked = Some (txn_commit cursor txn); stands = self.new.stands; down = true; disk = self.new.disk }) × (self.new.disk.faults ≡ bumped self.old.disk.faults) }
 
         // A crash inside it leaves what one before it may leave, or the transaction, whole and with its cursor.
         ensures any_crash { AnyCrashLeaves self.old.disk self.new.disk (MayFindDuring self.old (txn_commit cursor txn)) }
@@ -154,10 +157,10 @@ impl<D: Disk> Store<D> {
         ensures no_fault { IsErrOf result CommitFault.Memory → self.new.disk.faults ≡ self.old.disk.faults }
         ensures ok_faults { OnOk result (self.new.disk.faults ≡ self.old.disk.faults) }
 
-        // It is two of the writes that an armed disk counts, and up to six where it compacts.
+        // It is the two writes of a record, and up to six where it compacts; one at most without memory.
         ensures counted { OnOk result (CountsWrites self.old.disk self.new.disk) }
-        ensures ok_armed { OnOk result (nat_lt 0 self.new.disk.armed ≡ nat_lt 0 self.old.disk.armed) }
-        ensures still_armed { IsErrOf result CommitFault.Memory → nat_lt 0 self.new.disk.armed ≡ nat_lt 0 self.old.disk.armed }
+        ensures spends { IsErrOf result CommitFault.Memory → Spends 1 self.old.disk.armed self.new.disk.armed }
+        ensures word { self.new.disk.word ≡ self.old.disk.word }
     {
         if self.kept.is_shut() {
             return Err(CommitFault::Down);
@@ -171,16 +174,20 @@ impl<D: Disk> Store<D> {
         }
     }
 
-    /// Brings the store up, with the transaction in which the disk failed or without, as the word may pick. A store that is
-    /// up stays as it is. After `Disk` and after `Memory` it shows what it showed, and is still down.
+    /// Brings the store up, with the transaction in which the disk failed or without, as the word may pick; with it where
+    /// its record stands. A store that is up stays as it is. After `Disk` and after `Memory` it shows what it showed, and is still down.
     ///
     /// Cost: one pass over the journal, and as a commit.
     pub fn reopen(&mut self, word: u64) -> Result<(), Fault>
         ensures up { self.old.down ≡ false → (result ≡ Ok tt) × (self.new ≡ self.old) }
-        ensures ok { OnOk result ((kept : Bool) × (self.new ≡ up_with (reopened self.old kept) self.new.disk)) }
+        ensures ok { OnOk result ((kept : Bool) × (self.old.stands ≡ true → kept ≡ true) × (self.new ≡ up_with (reopened self.old kept) self.new.disk)) }
         ensures durable { OnOk result (LeavesRecords self.new.disk (λ found. saved_of found ≡ Some (saved_in self.new))) }
         ensures memory { IsErrOf result Fault.Memory → (self.new ≡ record self.old { disk = self.new.disk }) × (self.new.disk.faults ≡ self.old.disk.faults) }
-        ensures disk { IsErrOf result Fault.Disk → (self.new ≡ record self.old { disk = self.new.disk }) × Rose self.old.disk.faults self.new.disk.faults }
+        ensures disk { IsErrOf result Fault.Disk → (self.new ≡ record self.old { disk = self.new.disk }) × (self.new.disk.faults ≡ bumped self.old.disk.faults) }
+
+        // The disk of one that was down was reopened by this word, or refused.
+        ensures word { self.old.down ≡ true → OnOk result (self.new.disk.word ≡ word) }
+        ensures word_refused { (self.new.disk.word ≡ word) ⊎ (self.new.disk.word ≡ self.old.disk.word) }
 
         // A crash inside it leaves what one before it may leave.
         ensures any_crash { AnyCrashLeaves self.old.disk self.new.disk (MayFind self.old) }
@@ -254,15 +261,16 @@ fn begin_kept<D: Disk>(alloc: Global, disk: D) -> Result<Kept<Base, D>, D>
     requires synced { IsSynced (D.view disk) }
     requires empty { records_of (reads (D.view disk)) ≡ [] }
     ensures kept { IfOk result (keeping.IsKept base_kind nothing_saved) }
-    ensures none_asked { IfOk result (λ k. k.asked ≡ None) }
+    ensures none_asked { IfOk result (λ k. (k.asked ≡ None) × (k.stands ≡ false)) }
     ensures any_crash { IfOk result (λ k. AnyCrashLeaves (D.view disk) k.journal.disk (λ found. found ≡ [])) }
+    ensures word { IfOk result (λ k. k.journal.disk.word ≡ (D.view disk).word) }
     ensures faults { IfOk result (λ k. (D.view disk).faults ≤ k.journal.disk.faults) }
-    ensures shut { IfOk result (λ k. k.journal.shut ≡ true → Rose (D.view disk).faults k.journal.disk.faults) }
-    ensures opened { IfOk result (λ k. k.journal.shut ≡ false → Spares (D.view disk) k.journal.disk) }
+    ensures shut { IfOk result (λ k. k.journal.shut ≡ true → k.journal.disk.faults ≡ bumped (D.view disk).faults) }
+    ensures opened { IfOk result (λ k. k.journal.shut ≡ false → Spares 4 (D.view disk) k.journal.disk) }
     ensures four_writes { IfOk result (λ k. (D.view disk).armed ≤ k.journal.disk.armed + 4) }
     ensures synced_back { IfErr result (λ d. IsSynced (D.view d)) }
     ensures empty_back { IfErr result (λ d. records_of (reads (D.view d)) ≡ []) }
-    ensures memory { IfErr result (λ d. Spares (D.view disk) (D.view d)) }
+    ensures memory { IfErr result (λ d. Spares 4 (D.view disk) (D.view d)) }
     ensures any_crash_back { IfErr result (λ d. AnyCrashLeaves (D.view disk) (D.view d) (λ found. found ≡ [])) }
 {
     match Kept::<Base, D>::open_on(alloc, disk) {

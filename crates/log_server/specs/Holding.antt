@@ -1,5 +1,5 @@
 -- What a log server holds in memory, and what callers see of it.
-use Rattle.std.specs.Prelude.{◌<◌, not}
+use Rattle.std.specs.Prelude.{ℕ, ◌<◌, not}
 use Rattle.std.specs.VecDeque.{deque_len, deque_capacity}
 use Rattle.quorum_cell.specs.declared.message.Ask.{Ask}
 use Rattle.quorum_cell.specs.declared.message.Ask.TheVariants.{Store, Seal, Tail, Repair, Read, Trim}
@@ -23,9 +23,13 @@ IsRoomFor h Tail = Unit {0}
 IsRoomFor h (Read p) = Unit {0}
 IsRoomFor h (Trim n) = Unit {0}
 
--- what callers see
-abbrev pub view_of : Held → kept.View Ask → View
-view_of h k = record { server = record { base = h.base; entries = h.entries.items; sealed_at = h.sealed_at; up = not k.journal.shut; torn = k.asked }; disk = k.journal.disk; stands = k.stands }
+-- what it holds and whether it is up, as callers see it
+abbrev pub server_shown : Held → kept.View Ask → Server
+server_shown h k = record { base = h.base; entries = h.entries.items; sealed_at = h.sealed_at; up = not k.journal.shut; torn = k.asked }
+
+-- what callers see, once so many stops and restarts were asked for
+abbrev pub view_of : Held → kept.View Ask → ℕ → ℕ → View
+view_of h k stops restarts = record { server = server_shown h k; disk = k.journal.disk; stands = k.stands; stops = stops; restarts = restarts }
 
 -- The journal keeps what is held, of which some bytes spell all.
 pub record IsHeld (h : Held) (k : kept.View Ask) : Type 0 where

@@ -1,6 +1,6 @@
 //! A log server over its disk.
-ghost use Rattle.std.specs.Prelude.{◌≡◌, ◌≢◌, ◌^◌, ◌<◌, ◌≤◌, ℕ, Bool, true, false, if◌then◌else◌, Some, None, Ok, IfOk, IfErr, OnErr};
-ghost use Rattle.disk_model.specs.Disk.{DiskView, reads, IsSynced, Rose};
+ghost use Rattle.std.specs.Prelude.{◌≡◌, ◌≢◌, ◌+◌, ◌^◌, ◌<◌, ◌≤◌, ℕ, Bool, true, false, if◌then◌else◌, Some, None, Ok, IfOk, IfErr, OnErr};
+ghost use Rattle.disk_model.specs.Disk.{DiskView, reads, IsSynced, bumped};
 ghost use Rattle.delos_types.specs.Spelling.{IsSpellable};
 ghost use Rattle.delos_types.specs.declared.entry.Entry as entry_view;
 ghost use Rattle.journal_pair.specs.Records.{records_of};
@@ -8,7 +8,7 @@ ghost use Rattle.journal_pair.specs.Journal.{AnyCrashLeaves};
 ghost use Rattle.quorum_cell.specs.Servers.{length_of, is_sealed, told, told_up, told_place, restarted};
 ghost use Rattle.server_records.specs.Spelled.{server_of};
 ghost use Rattle.kept_value.specs.View.{IsFirstBad};
-ghost use Rattle.log_server.specs.View.{View, Spares, MayFind, Survives};
+ghost use Rattle.log_server.specs.View.{View, Spares, Tries, MayFind, Survives};
 ghost use Rattle.log_server.specs.Answers.{Answers, MayFindDuring};
 ghost use Rattle.log_server.specs.Kind.{CanWrite, server_kind};
 ghost use Rattle.log_server.specs.Holding.{server_with};
@@ -24,15 +24,18 @@ use std::marker::Model;
 /// One replica of a log, kept by a journal on a disk.
 ///
 /// Contracts see it as a `View`: the server as a quorum cell has it (what it holds, whether it is up, the write inside
-/// which it stopped), its disk, and whether the record of that write `stands`. Each call answers by the server's table, the
-/// first rule that applies. After [`Told::DiskFault`] it is down, and answers [`Told::Down`], until a
-/// [`LogServer::restart`] answers true. A refusal for want of memory changes nothing that it holds.
+/// which it stopped), its disk, whether the record of that write `stands`, and how many stops and restarts were asked for.
+/// Each call answers by the server's table, the first rule that applies. After [`Told::DiskFault`] it is down, and answers
+/// [`Told::Down`], until a [`LogServer::restart`] answers true. A refusal for want of memory changes nothing that it holds.
 ///
 /// Memory: each entry from its base on once, as a value. Its record stands on the disk alone.
 #[derive(Drop)]
 pub struct LogServer<D: Disk> {
     kept: Kept<Held, D>,
     held: Held,
+    // How many stops and restarts were asked for, up to the end of the type.
+    stops: u64,
+    restarts: u64,
 }
 
 impl<D: Disk> Model for LogServer<D> {
@@ -41,7 +44,7 @@ impl<D: Disk> Model for LogServer<D> {
 
     ghost Value = { View };
 
-    ghost view = { λ s. view_of s.held s.kept };
+    ghost view = { λ s. view_of s.held s.kept s.stops s.restarts };
 
     ghost invariant = { λ s. IsHeld s.held s.kept };
 }
@@ -56,15 +59,27 @@ impl<D: Disk> LogServer<D> {
         ensures spelled { IfOk result (λ s. server_of (records_of (reads (D.view disk))) ≡ Some s.server) }
         ensures survives { IfOk result Survives }
         ensures any_crash { IfOk result (λ s. AnyCrashLeaves (D.view disk) s.disk (λ found. found ≡ records_of (reads (D.view disk)))) }
-        ensures faults { IfOk result (λ s. (D.view disk).faults ≤ s.disk.faults) }
+
+        // Nothing was asked of it yet. Opening makes at most four writes, and neither arms nor disarms its disk.
+        ensures new { IfOk result (λ s. (s.stops ≡ 0) × (s.restarts ≡ 0)) }
+        ensures spares { IfOk result (λ s. Spares 4 (D.view disk) s.disk) }
+        ensures spares_refused { IfErr result (λ e. e.fault ≢ OpenFault.Disk → IsSynced (D.view e.disk) × Spares 4 (D.view disk) (D.view e.disk)) }
+        ensures four_writes_refused { IfErr result (λ e. (D.view disk).armed ≤ (D.view e.disk).armed + 4) }
+        ensures armed_refused { IfErr result (λ e. (D.view e.disk).armed ≤ (D.view disk).armed) }
+        ensures word_refused { IfErr result (λ e. (D.view e.disk).word ≡ (D.view disk).word) }
 
         // The first record that is none of a server's or doesn't follow is told; a disk's fault was counted.
         ensures bad { (index : ℕ) → IfErr result (λ e. e.fault ≡ OpenFault.BadRecord index → IsFirstBad server_kind (records_of (reads (D.view disk))) index) }
-        ensures failed { IfErr result (λ e. e.fault ≡ OpenFault.Disk → Rose (D.view disk).faults (D.view e.disk).faults) }
+        ensures failed { IfErr result (λ e. e.fault ≡ OpenFault.Disk → (D.view e.disk).faults ≡ bumped (D.view disk).faults) }
         ensures any_crash_refused { IfErr result (λ e. AnyCrashLeaves (D.view disk) (D.view e.disk) (λ found. found ≡ records_of (reads (D.view disk)))) }
     {
         let Opened { kept, value } = Kept::open_on(alloc, disk)?;
-        Ok(LogServer { kept, held: value })
+        Ok(LogServer {
+            kept,
+            held: value,
+            stops: 0,
+            restarts: 0,
+        })
     }
 
     /// Takes an entry at a place, below 2^32, unless it is sealed.
@@ -74,8 +89,8 @@ impl<D: Disk> LogServer<D> {
         requires place { place < 2 ^ 32 }
         requires entry { IsSpellable entry.now }
         ensures answers { IfOk result (λ answer. Answers self.old (Ask.Store place entry.now) answer self.new) }
-        ensures memory { OnErr result (self.new.server ≡ self.old.server) }
-        ensures spared { OnErr result (Spares self.old.disk self.new.disk) }
+        ensures memory { OnErr result (self.new ≡ record self.old { disk = self.new.disk }) }
+        ensures spared { OnErr result (Spares 1 self.old.disk self.new.disk) }
         ensures any_crash { AnyCrashLeaves self.old.disk self.new.disk (MayFindDuring self.old (Ask.Store place entry.now)) }
         ensures survives { Survives self.new }
         ensures faults { self.old.disk.faults ≤ self.new.disk.faults }
@@ -97,8 +112,8 @@ impl<D: Disk> LogServer<D> {
     /// Takes no more stores from now on. Cost: constant, amortised.
     pub fn seal(&mut self) -> Result<Told, AllocError>
         ensures answers { IfOk result (λ answer. Answers self.old Ask.Seal answer self.new) }
-        ensures memory { OnErr result (self.new.server ≡ self.old.server) }
-        ensures spared { OnErr result (Spares self.old.disk self.new.disk) }
+        ensures memory { OnErr result (self.new ≡ record self.old { disk = self.new.disk }) }
+        ensures spared { OnErr result (Spares 1 self.old.disk self.new.disk) }
         ensures any_crash { AnyCrashLeaves self.old.disk self.new.disk (MayFindDuring self.old Ask.Seal) }
         ensures survives { Survives self.new }
         ensures faults { self.old.disk.faults ≤ self.new.disk.faults }
@@ -136,8 +151,8 @@ impl<D: Disk> LogServer<D> {
         requires place { place < 2 ^ 32 }
         requires entry { IsSpellable entry.now }
         ensures answers { IfOk result (λ answer. Answers self.old (Ask.Repair place entry.now) answer self.new) }
-        ensures memory { OnErr result (self.new.server ≡ self.old.server) }
-        ensures spared { OnErr result (Spares self.old.disk self.new.disk) }
+        ensures memory { OnErr result (self.new ≡ record self.old { disk = self.new.disk }) }
+        ensures spared { OnErr result (Spares 1 self.old.disk self.new.disk) }
         ensures any_crash { AnyCrashLeaves self.old.disk self.new.disk (MayFindDuring self.old (Ask.Repair place entry.now)) }
         ensures survives { Survives self.new }
         ensures faults { self.old.disk.faults ≤ self.new.disk.faults }
@@ -176,8 +191,8 @@ impl<D: Disk> LogServer<D> {
     pub fn trim(&mut self, place: u64) -> Result<Told, AllocError>
         requires { place ≤ 2 ^ 32 }
         ensures answers { IfOk result (λ answer. Answers self.old (Ask.Trim place) answer self.new) }
-        ensures memory { OnErr result (self.new.server ≡ self.old.server) }
-        ensures spared { OnErr result (Spares self.old.disk self.new.disk) }
+        ensures memory { OnErr result (self.new ≡ record self.old { disk = self.new.disk }) }
+        ensures spared { OnErr result (Spares 1 self.old.disk self.new.disk) }
         ensures any_crash { AnyCrashLeaves self.old.disk self.new.disk (MayFindDuring self.old (Ask.Trim place)) }
         ensures survives { Survives self.new }
         ensures faults { self.old.disk.faults ≤ self.new.disk.faults }
@@ -193,41 +208,54 @@ impl<D: Disk> LogServer<D> {
     }
 
     /// Brings the server up, with the write inside which it stopped or without, as the word may pick; with it where its
-    /// record stands. True and nothing done where it is up; false only where the disk failed, and then it stays down.
+    /// record stands. True and nothing done but counted where it is up; false only where the disk failed, and then it stays
+    /// down. Where memory is wanting it stays down too, and the restart isn't counted.
     ///
     /// Cost: one pass over the records.
     pub fn restart(&mut self, word: u64) -> Result<bool, AllocError>
-        ensures up { self.old.server.up ≡ true → (result ≡ Ok true) × (self.new ≡ self.old) }
+        ensures up { self.old.server.up ≡ true → (result ≡ Ok true) × (self.new ≡ record self.old { restarts = bumped self.old.restarts }) }
         ensures restarted { result ≡ Ok true → (kept : Bool) × (self.new.server ≡ restarted self.old.server kept self.old.server.torn) }
         ensures stands { result ≡ Ok true → self.old.stands ≡ true → self.new.server ≡ restarted self.old.server true self.old.server.torn }
-        ensures failed { result ≡ Ok false → (self.new.server ≡ self.old.server) × Rose self.old.disk.faults self.new.disk.faults }
-        ensures memory { OnErr result (self.new.server ≡ self.old.server) }
+        ensures failed { result ≡ Ok false → (self.new ≡ record self.old { disk = self.new.disk; restarts = bumped self.old.restarts }) × (self.new.disk.faults ≡ bumped self.old.disk.faults) × Tries word self.old.disk self.new.disk }
+        ensures memory { OnErr result ((self.old.server.up ≡ false) × (self.new ≡ record self.old { disk = self.new.disk }) × (self.new.disk.faults ≡ self.old.disk.faults) × Tries word self.old.disk self.new.disk) }
         ensures any_crash { AnyCrashLeaves self.old.disk self.new.disk (MayFind self.old) }
         ensures survives { Survives self.new }
         ensures faults { self.old.disk.faults ≤ self.new.disk.faults }
 
-        // A disk that is opened again isn't armed, and no fault is counted but where it is told.
+        // A disk that is opened again is opened by the word, and isn't armed; no fault is counted but where it is told.
         ensures no_fault { result ≡ Ok true → self.new.disk.faults ≡ self.old.disk.faults }
+        ensures word { result ≡ Ok true → self.old.server.up ≡ false → self.new.disk.word ≡ word }
         ensures disarmed { result ≡ Ok true → self.old.server.up ≡ false → self.new.disk.armed ≡ 0 }
-        ensures memory_no_fault { OnErr result (self.new.disk.faults ≡ self.old.disk.faults) }
+
+        // Each restart that is answered is counted.
+        ensures counted { result ≡ Ok true → self.new.restarts ≡ bumped self.old.restarts }
+        ensures stops { self.new.stops ≡ self.old.stops }
     {
         if self.is_up() {
+            self.restarts = self.restarts.saturating_add(1);
             return Ok(true);
         }
         match self.kept.reopen(&mut self.held, word) {
-            Ok(()) => Ok(true),
+            Ok(()) => {
+                self.restarts = self.restarts.saturating_add(1);
+                Ok(true)
+            }
             Err(Fault::Memory) => Err(AllocError),
-            Err(Fault::Disk) => Ok(false),
+            Err(Fault::Disk) => {
+                self.restarts = self.restarts.saturating_add(1);
+                Ok(false)
+            }
         }
     }
 
-    /// Arms the disk: its write number `after` from now on stops inside itself; 0 takes that back.
+    /// Arms the disk: its write number `after` from now on stops inside itself; 0 takes that back. The stop is counted.
     pub fn stop(&mut self, after: u64)
-        ensures stops { self.new ≡ record self.old { disk = if self.old.disk.stopped then self.old.disk else record self.old.disk { armed = after } } }
+        ensures stops { self.new ≡ record self.old { disk = if self.old.disk.stopped then self.old.disk else record self.old.disk { armed = after }; stops = bumped self.old.stops } }
         ensures survives { Survives self.new }
         ensures arms { self.old.server.up ≡ true → self.new.disk.armed ≡ after }
     {
         self.kept.stop(after);
+        self.stops = self.stops.saturating_add(1);
     }
 
     /// How often the disk has failed.
@@ -253,8 +281,8 @@ impl<D: Disk> LogServer<D> {
         requires can { CanWrite self.old.server ask }
         requires told { answer ≡ told self.old.server ask }
         ensures answers { IfOk result (λ given. Answers self.old ask given self.new) }
-        ensures memory { OnErr result (self.new.server ≡ self.old.server) }
-        ensures spared { OnErr result (Spares self.old.disk self.new.disk) }
+        ensures memory { OnErr result (self.new ≡ record self.old { disk = self.new.disk }) }
+        ensures spared { OnErr result (Spares 1 self.old.disk self.new.disk) }
         ensures any_crash { AnyCrashLeaves self.old.disk self.new.disk (MayFindDuring self.old ask) }
         ensures survives { Survives self.new }
         ensures faults { self.old.disk.faults ≤ self.new.disk.faults }

@@ -12,10 +12,12 @@ use delos_types::numbers::Ticket;
 /// A log that can be sealed (OSDI 2020). An operation is begun, then carried by its caller, one
 /// step a call, until it is decided, and then its answer is taken. Several may be open at once.
 ///
-/// Each call is one step of what the loglet shows, and does to its servers what the call says, to
-/// that server and no other, and by that word: what it was told last is seen. `Refused::Memory`
-/// leaves all as it was, and is the only answer that has no cause in the loglet. `take`, `forget`,
-/// `left` and the loglet's numbers take no memory.
+/// Each call is one step of what the loglet shows, and does to its servers what the call says, once, to
+/// that server and no other, and by that word: the words of carries and strays are seen, the word by which
+/// each disk was reopened, and how often each was asked for. `Refused::Memory`
+/// leaves all as it was, but for writes that a disk took before, or the word by which it was reopened
+/// before, and is the only answer that has no cause in the loglet. `take`, `forget`, `left` and the
+/// loglet's numbers take no memory.
 pub trait Loglet: Drop {
     /// What it shows.
     ghost view: { Self → LogletView };

@@ -1,6 +1,7 @@
 -- What stands and what the records spell stay together, and what a crash leaves of them.
 use Rattle.std.proofs.Common.{◌≡◌, ℕ, ◌+◌, ◌<◌, ◌≤◌, inl, inr, Bool, true, false, cond, eqb, ltb, List, [], ◌∷◌, ◌++◌, length, take, drop, slice_index_or, Option, Some, None, Result, Ok, Err, refl, sym, ap, subst, ◌∙◌, arith, Vec, Global}
-use Rattle.std.specs.Prelude.{option_map, ◌&&◌, not, nat_lt, IfOk}
+use Rattle.std.specs.Prelude.{option_map, nat_lt, if◌then◌else◌, IfOk}
+use Rattle.std.specs.declared.alloc.AllocError.{AllocError}
 use Rattle.std.specs.Option.{ForSome}
 use Rattle.std.specs.Result.{result_ok}
 use Rattle.std.proofs.lemmas.Bool.{le-ltb, lt-ltb, ltb-true, cases_eq, eq-eqb, ne_eqb}
@@ -16,6 +17,7 @@ use Rattle.chain_map.specs.Chain.{IsChain}
 use Rattle.chain_map.specs.Reading.{chain_read}
 use Rattle.chain_map.proofs.Spellings.{chain_again}
 use Rattle.disk_model.specs.Disk.{DiskView, reads}
+use Rattle.disk_model.specs.Disk as disk
 use Rattle.disk_model.specs.Crash.{AnyCrash}
 use Rattle.disk_model.specs.CrashLaws.{stays, weaker}
 use Rattle.journal_core.specs.Records.{payloads}
@@ -24,8 +26,9 @@ use Rattle.journal_pair.specs.Records.{records_of}
 use Rattle.kept_value.specs.View as value
 use Rattle.kept_value.specs.Keeping as keeping
 use Rattle.kept_value.proofs.Laws.{kept_left}
-use Rattle.register_api.specs.View.{RegisterView, IsSound, IsFresh}
+use Rattle.register_api.specs.View.{RegisterView, IsSound, IsFresh, bumped}
 use Rattle.register_api.specs.Calls as calls
+use Rattle.meta_register.specs.declared.counts.Counts.{Counts}
 use Rattle.meta_register.specs.declared.standing.Standing.{Standing}
 use Rattle.meta_register.specs.Records.{SpellsStanding, standing_in, follows, standing_next, standing_after, standing_of, first_standing, IsFirstBad}
 use Rattle.meta_register.specs.View.{View, MayFind, MayFindDuring, Survives, counted, standing_in_view, most_records, CountsWrites}
@@ -124,9 +127,9 @@ shows_before : (v : RegisterView) (asked : Option Chain) → standing_in_view v 
 shows_before v None = refl
 shows_before v (Some chain) = refl
 
-module _ (s : Standing) (older : Option Standing) (downs misses told : ℕ) (k : value.View Chain) where
+module _ (s : Standing) (older : Option Standing) (counts : Counts) (k : value.View Chain) where
   abbrev here : View
-  here = view_of s older downs misses told k
+  here = view_of s older counts k
 
   pub may_find : (found : List (List ℕ)) → value.MayFind standing_kind s k found → MayFind here.register found
   may_find found m = (m.0, m.2 ∙ ap (λ (x : Standing). Some x) (shows_by here.register k.asked m.0))
@@ -204,12 +207,26 @@ kept_reopened s now older given asked done k is gives whole before after kept = 
 
 -- ---- a reopening
 
-abbrev with_state : RegisterView → Bool → ℕ → Bool → RegisterView
-with_state v down faults armed = record v { down = down; faults = faults; armed = armed }
+abbrev with_state : RegisterView → Bool → ℕ → ℕ → ℕ → ℕ → ℕ → RegisterView
+with_state v down faults misses armed word reopenings =
+    record v { down = down; faults = faults; misses = misses; armed = armed; word = word; reopenings = reopenings }
 
-same_state : (v : RegisterView) (d d' : Bool) (n n' : ℕ) (a a' : Bool) → d ≡ d' → n ≡ n' → a ≡ a' → with_state v d n a ≡ with_state v d' n' a'
-same_state v d d' n n' a a' down faults armed =
-    ap (λ (b : Bool). with_state v b n a) down ∙ ap (λ (k : ℕ). with_state v d' k a) faults ∙ ap (λ (b : Bool). with_state v d' n' b) armed
+same_state : (v : RegisterView) (d d' : Bool) (n n' m m' a a' w w' r r' : ℕ) → d ≡ d' → n ≡ n' → m ≡ m' → a ≡ a' → w ≡ w' → r ≡ r' → with_state v d n m a w r ≡ with_state v d' n' m' a' w' r'
+same_state v d d' n n' m m' a a' w w' r r' down faults misses armed word reopenings =
+    ap (λ (b : Bool). with_state v b n m a w r) down
+    ∙ ap (λ (k : ℕ). with_state v d' k m a w r) faults
+    ∙ ap (λ (k : ℕ). with_state v d' n' k a w r) misses
+    ∙ ap (λ (k : ℕ). with_state v d' n' m' k w r) armed
+    ∙ ap (λ (k : ℕ). with_state v d' n' m' a' k r) word
+    ∙ ap (λ (k : ℕ). with_state v d' n' m' a' w' k) reopenings
+
+-- one that is down isn't armed
+none_armed : (b : Bool) (n m : ℕ) → b ≡ true → (if b then 0 else n) ≡ (if b then 0 else m)
+none_armed b n m is = ap (λ (t : Bool). if t then 0 else n) is ∙ sym (ap (λ (t : Bool). if t then 0 else m) is)
+
+-- a fault of the disk is one of the register
+pub counted_bumped : (old new downs : ℕ) → new ≡ disk.bumped old → counted new downs ≡ bumped (counted old downs)
+counted_bumped old new downs is = omega (arith, is)
 
 true_false : {P : Type 0} → true ≡ false → P
 true_false is = cc is
@@ -220,25 +237,31 @@ less_more n = lt-ltb n (n + 1) (omega arith)
 less_same : (n : ℕ) → nat_lt n n ≡ false
 less_same n = le-ltb n n (omega arith)
 
--- it is up again, and nothing is armed
-module _ (s : Standing) (older : Option Standing) (downs misses told word : ℕ) (k new : value.View Chain) (was : k.journal.shut ≡ true) (up : new.journal.shut ≡ false) (calm : new.asked ≡ None) (disarmed : new.journal.disk.armed ≡ 0) (no_fault : new.journal.disk.faults ≡ k.journal.disk.faults) where
-  not_armed : (not new.journal.shut && nat_lt 0 new.journal.disk.armed) ≡ (not k.journal.shut && nat_lt 0 k.journal.disk.armed)
-  not_armed =
-      ap (λ (b : Bool). not b && nat_lt 0 new.journal.disk.armed) up ∙ ap (λ (n : ℕ). nat_lt 0 n) disarmed ∙ sym (ap (λ (b : Bool). not b && nat_lt 0 k.journal.disk.armed) was)
+-- it is up again, by this word, and nothing is armed
+module _ (s : Standing) (older : Option Standing) (counts : Counts) (word : ℕ) (k new : value.View Chain) (was : k.journal.shut ≡ true) (up : new.journal.shut ≡ false) (calm : new ≡ value.calm new.journal) (disarmed : new.journal.disk.armed ≡ 0) (no_fault : new.journal.disk.faults ≡ k.journal.disk.faults) (by_word : new.journal.disk.word ≡ word) where
+  not_armed : (if new.journal.shut then 0 else new.journal.disk.armed) ≡ (if k.journal.shut then 0 else k.journal.disk.armed)
+  not_armed = ap (λ (b : Bool). if b then 0 else new.journal.disk.armed) up ∙ disarmed ∙ sym (ap (λ (b : Bool). if b then 0 else k.journal.disk.armed) was)
+
+  abbrev now_counts : Counts
+  now_counts = record counts { reopenings = bumped counts.reopenings }
 
   -- with nothing asked for
   abbrev plain : value.View Chain
-  plain = record new { asked = None }
+  plain = value.calm new.journal
 
   abbrev Shows : Option Chain → Bool → Standing → Option Standing → Type 0
   Shows asked done now given =
-      (view_of now given downs misses word plain).register ≡ record (calls.reopened (view_of s older downs misses told (record k { asked = asked })).register done asked) { told = word }
+      (view_of now given now_counts plain).register ≡ record (calls.reopened (view_of s older counts (record k { asked = asked })).register done asked) { word = word; reopenings = bumped counts.reopenings }
 
-  same_now : (asked : Option Chain) (given : Option Standing) → given ≡ older → (done : Bool) → calls.reopened (view_of s older downs misses told (record k { asked = asked })).register done asked ≡ record (view_of s older downs misses told (record k { asked = None })).register { down = false } → Shows asked done s given
+  same_all : (v : RegisterView) → with_state v new.journal.shut (counted new.journal.disk.faults counts.downs) counts.misses (if new.journal.shut then 0 else new.journal.disk.armed) new.journal.disk.word (bumped counts.reopenings)
+      ≡ with_state v false (counted k.journal.disk.faults counts.downs) counts.misses (if k.journal.shut then 0 else k.journal.disk.armed) word (bumped counts.reopenings)
+  same_all v = same_state v _ _ _ _ _ _ _ _ _ _ _ _ up (ap (λ (n : ℕ). counted n counts.downs) no_fault) refl not_armed by_word refl
+
+  same_now : (asked : Option Chain) (given : Option Standing) → given ≡ older → (done : Bool) → calls.reopened (view_of s older counts (record k { asked = asked })).register done asked ≡ record (view_of s older counts (record k { asked = None; stands = false })).register { down = false } → Shows asked done s given
   same_now asked given is done plain_is =
-      ap (λ (o : Option Standing). (view_of s o downs misses word plain).register) is
-      ∙ same_state (record (view_of s older downs misses word (record k { asked = None })).register { down = false }) _ _ _ _ _ _ up (ap (λ (n : ℕ). counted n downs) no_fault) not_armed
-      ∙ ap (λ (r : RegisterView). record r { told = word }) (sym plain_is)
+      ap (λ (o : Option Standing). (view_of s o now_counts plain).register) is
+      ∙ same_all (view_of s older counts (record k { asked = None; stands = false })).register
+      ∙ ap (λ (r : RegisterView). record r { word = word; reopenings = bumped counts.reopenings }) (sym plain_is)
 
   older_same : older_after s older s ≡ older
   older_same = ap (λ t. cond t (Some (given_of s older)) older) (less_same s.version)
@@ -247,19 +270,42 @@ module _ (s : Standing) (older : Option Standing) (downs misses told word : ℕ)
   shows_reopened None done = same_now None (older_after s older s) older_same done refl
   shows_reopened (Some chain) false = same_now (Some chain) (older_after s older s) older_same false refl
   shows_reopened (Some chain) true =
-      ap (λ t. (view_of (advanced s chain) (cond t (Some (given_of s older)) older) downs misses word plain).register) (less_more s.version)
-      ∙ same_state (record (calls.reopened (view_of s older downs misses told (record k { asked = Some chain })).register true (Some chain)) { told = word }) _ _ _ _ _ _ up (ap (λ (n : ℕ). counted n downs) no_fault) not_armed
+      ap (λ t. (view_of (advanced s chain) (cond t (Some (given_of s older)) older) now_counts plain).register) (less_more s.version)
+      ∙ same_all (calls.reopened (view_of s older counts (record k { asked = Some chain })).register true (Some chain))
 
-  pub reopens_so : (now : Standing) (given : Option Standing) (done : Bool) (v : View) → view_of s older downs misses told k ≡ v → now ≡ value.reopened_by standing_kind s k.asked done → given ≡ older_after s older now →
-      calls.Reopens v.register word (Ok true) (view_of now given downs misses word new).register
-  reopens_so now given done v is settles gives =
-      let none : new ≡ plain = ap (λ (a : Option Chain). record new { asked = a }) calm in
-      let shows : (view_of now given downs misses word new).register ≡ record (calls.reopened (view_of s older downs misses told k).register done k.asked) { told = word } =
-      ap (λ (n : value.View Chain). (view_of now given downs misses word n).register) none
-      ∙ ap (λ (o : Option Standing). (view_of now o downs misses word plain).register) gives
-      ∙ ap (λ (x : Standing). (view_of x (older_after s older x) downs misses word plain).register) settles
+  pub reopens_so : (last : Counts) (now : Standing) (given : Option Standing) (done : Bool) (v : View) → last ≡ now_counts → view_of s older counts k ≡ v → (k.stands ≡ true → done ≡ true) → now ≡ value.reopened_by standing_kind s k.asked done → given ≡ older_after s older now →
+      calls.Reopens v.register word (Ok true) (view_of now given last new).register
+  reopens_so last now given done v once is standing settles gives =
+      let shows : (view_of now given last new).register ≡ record (calls.reopened (view_of s older counts k).register done k.asked) { word = word; reopenings = bumped counts.reopenings } =
+      ap (λ (n : Counts). (view_of now given n new).register) once
+      ∙ ap (λ (n : value.View Chain). (view_of now given now_counts n).register) calm
+      ∙ ap (λ (o : Option Standing). (view_of now o now_counts plain).register) gives
+      ∙ ap (λ (x : Standing). (view_of x (older_after s older x) now_counts plain).register) settles
       ∙ shows_reopened k.asked done in
-      subst (λ (w : View). calls.Reopens w.register word (Ok true) (view_of now given downs misses word new).register) is ((λ running. true_false (sym was ∙ running)), (done, shows))
+      subst (λ (w : View). calls.Reopens w.register word (Ok true) (view_of now given last new).register) is ((λ running. true_false (sym was ∙ running)), (λ _. (done, standing, shows)))
+
+-- it stays down, and showed the same but for what is counted and the word
+module _ (s : Standing) (older : Option Standing) (counts : Counts) (word : ℕ) (k new : value.View Chain) (was : k.journal.shut ≡ true) (now : Standing) (same : now ≡ s) (tries : value.Tries word k.journal.disk new.journal.disk) (v : View) (is : view_of s older counts k ≡ v) where
+  -- its disk failed
+  pub misses_so : (last : Counts) → last ≡ record counts { misses = bumped counts.misses; reopenings = bumped counts.reopenings } → new ≡ record k { journal = record k.journal { shut = true; disk = new.journal.disk } } → new.journal.disk.faults ≡ disk.bumped k.journal.disk.faults →
+      calls.Reopens v.register word (Ok false) (view_of now older last new).register
+  misses_so last once kept fault =
+      let missed : Counts = record counts { misses = bumped counts.misses; reopenings = bumped counts.reopenings } in
+      let shows : (view_of now older last new).register ≡ record (view_of s older counts k).register { faults = bumped (counted k.journal.disk.faults counts.downs); misses = bumped counts.misses; word = new.journal.disk.word; reopenings = bumped counts.reopenings } =
+      ap (λ (n : Counts). (view_of now older n new).register) once
+      ∙ ap (λ (x : Standing). (view_of x older missed new).register) same
+      ∙ ap (λ (n : value.View Chain). (view_of s older missed n).register) kept
+      ∙ same_state (view_of s older missed k).register _ _ _ _ _ _ _ _ _ _ _ _ (sym was) (counted_bumped _ _ counts.downs fault) refl (sym (ap (λ (b : Bool). if b then 0 else k.journal.disk.armed) was)) refl refl in
+      subst (λ (w : View). calls.Reopens w.register word (Ok false) (view_of now older last new).register) is ((was, tries), shows)
+
+  -- there was no memory
+  pub unheard_so : (e : AllocError) → new ≡ record k { journal = record k.journal { disk = new.journal.disk } } → new.journal.disk.faults ≡ k.journal.disk.faults → calls.Reopens v.register word (Err e) (view_of now older counts new).register
+  unheard_so e kept no_fault =
+      let shows : (view_of now older counts new).register ≡ record (view_of s older counts k).register { word = new.journal.disk.word } =
+      ap (λ (x : Standing). (view_of x older counts new).register) same
+      ∙ ap (λ (n : value.View Chain). (view_of s older counts n).register) kept
+      ∙ same_state (view_of s older counts k).register _ _ _ _ _ _ _ _ _ _ _ _ refl (ap (λ (n : ℕ). counted n counts.downs) no_fault) refl (none_armed k.journal.shut _ _ was) refl refl in
+      subst (λ (w : View). calls.Reopens w.register word (Err e) (view_of now older counts new).register) is (inr ((was, tries), shows))
 
 -- ---- how many writes
 
@@ -268,28 +314,29 @@ all_there : (s : Standing) (k : value.View Chain) → keeping.IsKept standing_ki
 all_there s k kept running = ap length (now_has k.journal.disk.timeline.now _ (kept.survives.exact running))
 
 pub counts_writes : (s : Standing) (chain : Chain) (k new : value.View Chain) → keeping.IsKept standing_kind s k → k.journal.shut ≡ false →
-    (nat_lt most_records (length k.journal.records + 1) ≡ false → value.AddsOne k.journal new.journal) → k.journal.disk.armed ≤ new.journal.disk.armed + 6 → value.Spares k.journal.disk new.journal.disk →
+    (nat_lt most_records (length k.journal.records + 1) ≡ false → value.AddsOne k.journal new.journal) → value.TakesWrite 4 k.journal.disk new.journal.disk →
     CountsWrites k.journal.disk new.journal.disk
-counts_writes s chain k new kept running one six spares = record {
+counts_writes s chain k new kept running one writes = record {
   two = λ few.
       let all = all_there s k kept running in
-      let added = one (le-ltb most_records (length k.journal.records + 1) (omega (arith, few, all))) in
-      (added.first, added.second, added.left);
-  six = six;
-  armed = spares.armed;
-  no_fault = spares.faults;
+      (one (le-ltb most_records (length k.journal.records + 1) (omega (arith, few, all)))).taken;
+  six = writes.taken;
+  no_fault = writes.faults;
 }
 
-pub counts_records : (s : Standing) (older : Option Standing) (downs misses told : ℕ) (k : value.View Chain) (now : View) → IsKept s older k → view_of s older downs misses told k ≡ now →
+pub counts_records : (s : Standing) (older : Option Standing) (counts : Counts) (k : value.View Chain) (now : View) → IsKept s older k → view_of s older counts k ≡ now →
     (n : ℕ) → n ≡ length k.journal.records → now.register.down ≡ false → n ≡ length (records_of (reads now.disk))
-counts_records s older downs misses told k now i is n counted up =
+counts_records s older counts k now i is n counted up =
     let running : k.journal.shut ≡ false = ap (λ (v : View). v.register.down) is ∙ up in
     counted ∙ sym (all_there s k i.kept running) ∙ ap (λ (v : View). length (records_of (reads v.disk))) is
 
 -- ---- an opening of a disk without records
 
-pub opened_fresh : (s : Standing) (k : value.View Chain) (rs : List (List ℕ)) → standing_of rs ≡ Some s → rs ≡ [] → k ≡ value.calm k.journal → k.journal.shut ≡ false → k.journal.disk.faults ≡ 0 → IsFresh (view_of s None 0 0 0 k).register
-opened_fresh s k rs spelled none calm up no_fault =
+abbrev pub nothing_counted : Counts
+nothing_counted = record { downs = 0; misses = 0; stops = 0; reopenings = 0 }
+
+pub opened_fresh : (s : Standing) (k : value.View Chain) (rs : List (List ℕ)) → standing_of rs ≡ Some s → rs ≡ [] → k ≡ value.calm k.journal → k.journal.shut ≡ false → k.journal.disk.faults ≡ 0 → k.journal.disk.armed ≡ 0 → IsFresh (view_of s None nothing_counted k).register
+opened_fresh s k rs spelled none calm up no_fault unarmed =
     let first : s ≡ first_standing = same_some s first_standing (sym spelled ∙ ap standing_of none) in
     record {
       version = ap (λ (x : Standing). x.version) first;
@@ -300,6 +347,7 @@ opened_fresh s k rs spelled none calm up no_fault =
       down = up;
       faults = ap (λ (n : ℕ). counted n 0) no_fault;
       misses = refl;
+      armed = ap (λ (b : Bool). if b then 0 else k.journal.disk.armed) up ∙ unarmed;
     }
   where
     same_some : (x y : Standing) → Some x ≡ Some y → x ≡ y
@@ -307,14 +355,15 @@ opened_fresh s k rs spelled none calm up no_fault =
 
 -- ---- what holds at every moment
 
-sound_of : (s : Standing) (older : Option Standing) (downs misses told : ℕ) (k : value.View Chain) → IsKept s older k → IsSound (view_of s older downs misses told k).register
-sound_of s older downs misses told k i = record {
+sound_of : (s : Standing) (older : Option Standing) (counts : Counts) (k : value.View Chain) → IsKept s older k → IsSound (view_of s older counts k).register
+sound_of s older counts k i = record {
   least = i.whole.least;
   chain = i.whole.joined;
   given = given_within older i.before;
   given_chain = given_joined older i.before;
   same = given_same older i.before;
   asked = i.kept.whole;
+  settled = i.kept.settled;
   asked_chain = λ chain is. (i.kept.can chain is).joined;
 }
   where
@@ -333,5 +382,5 @@ sound_of s older downs misses told k i = record {
         apart : o.version < s.version → o.version ≡ s.version → ⊥
         apart less same = omega (arith, less, same)
 
-pub seen_sound : (s : Standing) (older : Option Standing) (downs misses told : ℕ) (k : value.View Chain) (now : View) → IsKept s older k → view_of s older downs misses told k ≡ now → IsSound now.register
-seen_sound s older downs misses told k now i is = subst (λ (v : View). IsSound v.register) is (sound_of s older downs misses told k i)
+pub seen_sound : (s : Standing) (older : Option Standing) (counts : Counts) (k : value.View Chain) (now : View) → IsKept s older k → view_of s older counts k ≡ now → IsSound now.register
+seen_sound s older counts k now i is = subst (λ (v : View). IsSound v.register) is (sound_of s older counts k i)

@@ -1,11 +1,12 @@
 -- What a register keeps in memory, and how that and what keeps it belong together.
-use Rattle.std.specs.Prelude.{ℕ, ◌+◌, ◌^◌, ◌<◌, ◌≤◌, ◌&&◌, not, nat_lt, if◌then◌else◌, Option, Some, unwrap_or}
+use Rattle.std.specs.Prelude.{ℕ, ◌+◌, ◌^◌, ◌<◌, ◌≤◌, nat_lt, if◌then◌else◌, Option, Some, unwrap_or}
 use Rattle.std.specs.Option.{ForSome}
 use Rattle.delos_types.specs.declared.chain.Chain.{Chain}
 use Rattle.chain_map.specs.Chain.{IsChain}
 use Rattle.kept_value.specs.View.{Kind}
 use Rattle.kept_value.specs.View as value
 use Rattle.kept_value.specs.Keeping as keeping
+use Rattle.meta_register.specs.declared.counts.Counts.{Counts}
 use Rattle.meta_register.specs.declared.standing.Standing.{Standing}
 use Rattle.meta_register.specs.Records.{standing_of}
 use Rattle.meta_register.specs.View.{View, counted, most_records}
@@ -15,21 +16,24 @@ abbrev pub given_of : Standing → Option Standing → Standing
 given_of s older = unwrap_or older s
 
 -- what callers see
-abbrev pub view_of : Standing → Option Standing → ℕ → ℕ → ℕ → value.View Chain → View
-view_of s older downs misses told k = record {
+abbrev pub view_of : Standing → Option Standing → Counts → value.View Chain → View
+view_of s older counts k = record {
   register = record {
     version = s.version;
     chain = s.chain;
     given = (given_of s older).version;
     given_chain = (given_of s older).chain;
     asked = k.asked;
+    stands = k.stands;
     down = k.journal.shut;
-    faults = counted k.journal.disk.faults downs;
-    misses = misses;
-    armed = not k.journal.shut && nat_lt 0 k.journal.disk.armed;
-    told = told;
+    faults = counted k.journal.disk.faults counts.downs;
+    misses = counts.misses;
+    armed = if k.journal.shut then 0 else k.journal.disk.armed;
+    word = k.journal.disk.word;
+    stops = counts.stops;
+    reopenings = counts.reopenings;
   };
-  downs = downs;
+  downs = counts.downs;
   disk = k.journal.disk;
 }
 

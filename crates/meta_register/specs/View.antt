@@ -1,7 +1,8 @@
 -- A register as its callers see it, and what a crash leaves of it.
-use Rattle.std.specs.Prelude.{◌≡◌, ◌≢◌, ◌⊎◌, ℕ, ◌+◌, ◌-◌, ◌^◌, ◌<◌, ◌≤◌, min, nat_lt, Bool, if◌then◌else◌, List, length, Some}
+use Rattle.std.specs.Prelude.{◌≡◌, ◌⊎◌, ℕ, ◌+◌, ◌-◌, ◌^◌, ◌<◌, min, Bool, if◌then◌else◌, List, length, Some}
 use Rattle.delos_types.specs.declared.chain.Chain.{Chain}
 use Rattle.disk_model.specs.Disk.{DiskView, reads}
+use Rattle.disk_model.specs.Armed.{TakesRecord}
 use Rattle.journal_pair.specs.Records.{records_of}
 use Rattle.journal_pair.specs.Journal.{LeavesRecords}
 use Rattle.register_api.specs.View.{RegisterView, bumped}
@@ -9,7 +10,8 @@ use Rattle.register_api.specs.Calls.{reopened}
 use Rattle.meta_register.specs.declared.standing.Standing.{Standing}
 use Rattle.meta_register.specs.Records.{standing_of}
 
--- what every register shows; how often it answered that it was down; and its disk
+-- What every register shows; how often it answered that it was down; and its disk. The register's word is that of the disk,
+-- and so is its count of writes while it is up.
 pub record View : Type 0 where
   pub register : RegisterView
   pub downs : ℕ
@@ -42,10 +44,8 @@ downs_after v = if v.register.down then bumped v.downs else v.downs
 abbrev pub most_records : ℕ
 most_records = 64
 
--- A good write is two of the writes that an armed disk counts, and where it compacts at most four more. The disk doesn't
--- fail, and is armed or not as it was.
+-- A good write is the two writes of a record, and where it compacts at most four more. The disk doesn't fail.
 pub record CountsWrites (old new : DiskView) : Type 0 where
-  pub two : length (records_of (reads old)) < most_records → (old.armed ≢ 1) × (old.armed ≢ 2) × (new.armed ≡ old.armed - 2)
-  pub six : old.armed ≤ new.armed + 6
-  pub armed : nat_lt 0 new.armed ≡ nat_lt 0 old.armed
+  pub two : length (records_of (reads old)) < most_records → TakesRecord 0 old.armed new.armed
+  pub six : TakesRecord 4 old.armed new.armed
   pub no_fault : new.faults ≡ old.faults

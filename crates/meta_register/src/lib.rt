@@ -7,6 +7,7 @@
 //! (a register as its callers see it, and what a crash leaves of it).
 #![tactic(auto)]
 
+mod counts;
 mod meta;
 mod records;
 mod standing;

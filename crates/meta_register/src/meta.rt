@@ -1,6 +1,7 @@
 //! A register over its disk.
-ghost use Rattle.std.specs.Prelude.{◌≡◌, ◌≢◌, ◌⊎◌, ℕ, ◌+◌, ◌-◌, ◌^◌, ◌<◌, ◌≤◌, nat_lt, true, false, if◌then◌else◌, Some, None, [], length, IfOk, IfErr, OnErr, Ok};
-ghost use Rattle.disk_model.specs.Disk.{reads, IsSynced, Rose};
+ghost use Rattle.std.specs.Prelude.{◌≡◌, ◌≢◌, ◌⊎◌, ℕ, ◌+◌, ◌-◌, ◌^◌, ◌<◌, ◌≤◌, true, false, if◌then◌else◌, Some, None, [], length, IfOk, IfErr, OnErr, Ok};
+ghost use Rattle.disk_model.specs.Disk.{reads, IsSynced, bumped};
+ghost use Rattle.disk_model.specs.Armed.{Spends};
 ghost use Rattle.journal_pair.specs.Records.{records_of};
 ghost use Rattle.journal_pair.specs.Journal.{AnyCrashLeaves};
 ghost use Rattle.chain_map.specs.Chain.{IsChain};
@@ -9,6 +10,7 @@ ghost use Rattle.register_api.specs.Calls.{Reads, Writes, Reopens};
 ghost use Rattle.meta_register.specs.Records.{standing_of, IsFirstBad};
 ghost use Rattle.meta_register.specs.View.{View, MayFind, MayFindDuring, Survives, standing_in_view, counted, downs_after, CountsWrites};
 
+use crate::counts::Counts;
 use crate::standing::{Standing, remember};
 use delos_types::chain::Chain;
 use disk_model::Disk;
@@ -31,10 +33,7 @@ pub struct MetaRegister<D: Disk> {
     standing: Standing,
     /// What was given last, where that isn't what stands.
     older: Option<Standing>,
-    downs: u64,
-    misses: u64,
-    /// The count or word that the last stop or reopening was given.
-    told: u64,
+    counts: Counts,
 }
 
 impl<D: Disk> Model for MetaRegister<D> {
@@ -43,7 +42,7 @@ impl<D: Disk> Model for MetaRegister<D> {
 
     ghost Value = { View };
 
-    ghost view = { λ r. view_of r.standing r.older r.downs r.misses r.told r.kept };
+    ghost view = { λ r. view_of r.standing r.older r.counts r.kept };
 
     ghost invariant = { λ r. IsKept r.standing r.older r.kept };
 }
@@ -57,23 +56,25 @@ impl<D: Disk> MetaRegister<D> {
         requires { IsSynced (D.view disk) }
         ensures spelled { IfOk result (λ r. standing_of (records_of (reads (D.view disk))) ≡ Some (standing_in_view r.register)) }
         ensures up { IfOk result (λ r. (r.register.down ≡ false) × (r.register.given ≡ r.register.version) × (r.register.misses ≡ 0)) }
-        ensures fresh { records_of (reads (D.view disk)) ≡ [] → (D.view disk).faults ≡ 0 → IfOk result (λ r. IsFresh r.register) }
-        ensures empty { reads (D.view disk) ≡ [] → (D.view disk).faults ≡ 0 → IfOk result (λ r. IsFresh r.register) }
+        ensures fresh { records_of (reads (D.view disk)) ≡ [] → (D.view disk).faults ≡ 0 → (D.view disk).armed ≡ 0 → IfOk result (λ r. IsFresh r.register) }
+        ensures empty { reads (D.view disk) ≡ [] → (D.view disk).faults ≡ 0 → (D.view disk).armed ≡ 0 → IfOk result (λ r. IsFresh r.register) }
         ensures survives { IfOk result Survives }
         ensures any_crash { IfOk result (λ r. AnyCrashLeaves (D.view disk) r.disk (λ found. found ≡ records_of (reads (D.view disk)))) }
         ensures faults { IfOk result (λ r. r.disk.faults ≡ (D.view disk).faults) }
-        ensures untold { IfOk result (λ r. (r.downs ≡ 0) × (r.register.told ≡ 0)) }
+        ensures word { IfOk result (λ r. (r.disk.word ≡ (D.view disk).word) × (r.register.word ≡ (D.view disk).word)) }
+        ensures uncounted { IfOk result (λ r. (r.downs ≡ 0) × (r.register.stops ≡ 0) × (r.register.reopenings ≡ 0)) }
 
         // At most four writes were made: it is armed where it was, and one that fails may have reached the armed write.
-        ensures four_writes { IfOk result (λ r. (D.view disk).armed ≤ r.disk.armed + 4) }
-        ensures armed { IfOk result (λ r. r.register.armed ≡ nat_lt 0 (D.view disk).armed) }
+        ensures spends { IfOk result (λ r. Spends 4 (D.view disk).armed r.disk.armed) }
+        ensures armed { IfOk result (λ r. r.register.armed ≡ r.disk.armed) }
         ensures four_writes_refused { IfErr result (λ e. (D.view disk).armed ≤ (D.view e.disk).armed + 4) }
-        ensures armed_refused { IfErr result (λ e. e.fault ≢ OpenFault.Disk → nat_lt 0 (D.view e.disk).armed ≡ nat_lt 0 (D.view disk).armed) }
+        ensures spends_refused { IfErr result (λ e. e.fault ≢ OpenFault.Disk → Spends 4 (D.view disk).armed (D.view e.disk).armed) }
+        ensures word_refused { IfErr result (λ e. (D.view e.disk).word ≡ (D.view disk).word) }
         ensures no_fault_refused { IfErr result (λ e. e.fault ≢ OpenFault.Disk → (D.view e.disk).faults ≡ (D.view disk).faults) }
 
         // The first record that is none of a register's or doesn't follow is told; a disk's fault was counted.
         ensures bad { (index : ℕ) → IfErr result (λ e. e.fault ≡ OpenFault.BadRecord index → IsFirstBad (records_of (reads (D.view disk))) index) }
-        ensures failed { IfErr result (λ e. e.fault ≡ OpenFault.Disk → Rose (D.view disk).faults (D.view e.disk).faults) }
+        ensures failed { IfErr result (λ e. e.fault ≡ OpenFault.Disk → (D.view e.disk).faults ≡ bumped (D.view disk).faults) }
         ensures any_crash_refused { IfErr result (λ e. AnyCrashLeaves (D.view disk) (D.view e.disk) (λ found. found ≡ records_of (reads (D.view disk)))) }
     {
         match Kept::open_on(alloc, disk) {
@@ -81,9 +82,7 @@ impl<D: Disk> MetaRegister<D> {
                 kept,
                 standing: value,
                 older: None,
-                downs: 0,
-                misses: 0,
-                told: 0,
+                counts: Counts::NONE,
             }),
             Err(refused) => Err(refused),
         }
@@ -128,9 +127,7 @@ impl<D: Disk> MetaRegister<D> {
             kept,
             standing: _,
             older: _,
-            downs: _,
-            misses: _,
-            told: _,
+            counts: _,
         } = self;
         kept.into_parts()
     }
@@ -145,7 +142,7 @@ impl<D: Disk> Register for MetaRegister<D> {
         ensures downs { self.new.downs ≡ downs_after self.old }
     {
         if self.kept.is_shut() {
-            self.downs = self.downs.saturating_add(1);
+            self.counts = self.counts.with_down();
             return Ok(ReadAnswer::Down);
         }
         let chain = self.standing.chain.clone()?;
@@ -159,8 +156,8 @@ impl<D: Disk> Register for MetaRegister<D> {
         ensures writes { Writes self.old.register expected chain.now result self.new.register }
         ensures downs { self.new.downs ≡ downs_after self.old }
 
-        // A good write is two of the writes that an armed disk counts, and up to six where it compacts; what isn't to
-        // write leaves the disk as it was.
+        // A good write is the two writes of a record, and up to six where it compacts; what isn't to write leaves the disk
+        // as it was.
         ensures counted { (next : ℕ) → result ≡ Ok (WriteAnswer.Written next) → CountsWrites self.old.disk self.new.disk }
         ensures conflict { expected ≢ self.old.register.version → self.new.disk ≡ self.old.disk }
         ensures down { self.old.register.down ≡ true → self.new.disk ≡ self.old.disk }
@@ -171,7 +168,7 @@ impl<D: Disk> Register for MetaRegister<D> {
         ensures survives { Survives self.new }
     {
         if self.kept.is_shut() {
-            self.downs = self.downs.saturating_add(1);
+            self.counts = self.counts.with_down();
             return Ok(WriteAnswer::Down);
         }
         let version = self.standing.version;
@@ -189,8 +186,8 @@ impl<D: Disk> Register for MetaRegister<D> {
         ensures arms { self.old.register.down ≡ false → self.new.disk ≡ record self.old.disk { armed = after } }
         ensures survives { Survives self.new }
     {
+        self.counts = self.counts.with_stop();
         self.kept.stop(after);
-        self.told = after;
     }
 
     fn reopen(&mut self, word: u64) -> Result<bool, AllocError>
@@ -208,7 +205,7 @@ impl<D: Disk> Register for MetaRegister<D> {
         ensures survives { Survives self.new }
     {
         if !self.kept.is_shut() {
-            self.told = word;
+            self.counts = self.counts.with_reopening();
             return Ok(true);
         }
         let before = Standing {
@@ -218,13 +215,12 @@ impl<D: Disk> Register for MetaRegister<D> {
         match self.kept.reopen(&mut self.standing, word) {
             Ok(()) => {
                 remember(&mut self.older, before, &self.standing);
-                self.told = word;
+                self.counts = self.counts.with_reopening();
                 Ok(true)
             }
             Err(Fault::Memory) => Err(AllocError),
             Err(Fault::Disk) => {
-                self.misses = self.misses.saturating_add(1);
-                self.told = word;
+                self.counts = self.counts.with_miss();
                 Ok(false)
             }
         }
@@ -241,11 +237,11 @@ impl<D: Disk> Register for MetaRegister<D> {
         ensures value { result ≡ self.now.register.faults }
         ensures both { result ≡ counted self.now.disk.faults self.now.downs }
     {
-        self.kept.disk_faults().saturating_add(self.downs)
+        self.kept.disk_faults().saturating_add(self.counts.downs)
     }
 
     fn misses(&self) -> u64 {
-        self.misses
+        self.counts.misses
     }
 
     fn is_down(&self) -> bool {

@@ -120,7 +120,7 @@ put_alike xs room es vs marks m i was is here there same = record { room = refl;
 
 ---- open operations
 
-pub shows : {told : ℕ} (a : Native) (w : NativeView) → record { loglet = loglet_of a; replicas = a.replicas; told = told; parts = a } ≡ w → loglet_of a ≡ w.loglet
+pub shows : {told carried strayed : ℕ} (a : Native) (w : NativeView) → record { loglet = loglet_of a; replicas = a.replicas; told = told; carried = carried; strayed = strayed; parts = a } ≡ w → loglet_of a ≡ w.loglet
 shows a w e = ap (λ (x : NativeView). x.loglet) e
 
 pub open_owned : (a : Native) (v : LogletView) (t : ℕ) → loglet_of a ≡ v → IsOwned a → IsOpen v t → IsSome (look_in a.pending t)

@@ -37,7 +37,7 @@ use Rattle.native_loglet.proofs.Wholes.{takes_whole, carries_whole, restarts_who
 
 ---- what is seen of the loglet is what its parts are
 
-pub goes_from : {told : ℕ} (a : Native) (w : NativeView) (call : LogletCall) (answer : LogletAnswer) (b : Native) → record { loglet = loglet_of a; replicas = a.replicas; told = told; parts = a } ≡ w → CanCall w.loglet call
+pub goes_from : {told carried strayed : ℕ} (a : Native) (w : NativeView) (call : LogletCall) (answer : LogletAnswer) (b : Native) → record { loglet = loglet_of a; replicas = a.replicas; told = told; carried = carried; strayed = strayed; parts = a } ≡ w → CanCall w.loglet call
     → (CanCall (loglet_of a) call → NativeStep a call answer b) → NativeStep w.parts call answer b
 goes_from a w call answer b e can f = subst (λ (x : Native). NativeStep x call answer b) (ap (λ (x : NativeView). x.parts) e) (f (subst (λ (x : LogletView). CanCall x call) (sym (shows a w e)) can))
 
@@ -49,7 +49,7 @@ stays_goes a b call answer h k can does none = record {
   cells = λ c t. record { steps = []; are = none c; cell = alike_tied a b c k t };
 }
 
-pub same_goes : {told : ℕ} (a : Native) (w : NativeView) (call : LogletCall) (answer : LogletAnswer) → record { loglet = loglet_of a; replicas = a.replicas; told = told; parts = a } ≡ w → CanCall w.loglet call → IsOwned a
+pub same_goes : {told carried strayed : ℕ} (a : Native) (w : NativeView) (call : LogletCall) (answer : LogletAnswer) → record { loglet = loglet_of a; replicas = a.replicas; told = told; carried = carried; strayed = strayed; parts = a } ≡ w → CanCall w.loglet call → IsOwned a
     → Does (loglet_of a) call answer (loglet_of a) → ((c : Cell) → StepsOf a c call answer []) → NativeStep w.parts call answer w.parts
 same_goes a w call answer e can h does none =
     let same : Alike a a = record { room = refl; entries = refl; servers = refl; marks = refl; strays = refl; pending = λ t. refl } in
@@ -92,7 +92,7 @@ forgets_goes a b t h can k marks u = record {
 }
 
 pub restarts_goes : (a : Native) (marks : Marks) (i word : ℕ) (was is : View) (up : Bool) → IsOwned a → i < length a.replicas → was ≡ get_or a.replicas i was
-    → (was.server.up ≡ true → (up ≡ true) × (is ≡ was)) → (up ≡ true → (kept : Bool) × (is.server ≡ restarted was.server kept was.server.torn)) → (up ≡ false → is.server ≡ was.server)
+    → (was.server.up ≡ true → (up ≡ true) × (is.server ≡ was.server)) → (up ≡ true → (kept : Bool) × (is.server ≡ restarted was.server kept was.server.torn)) → (up ≡ false → is.server ≡ was.server)
     → marks ≡ record a.marks { faults = faults_after (not up) a.marks.faults } → NativeStep a (CallRestart i word) (Restarted up) (record a { replicas = set a.replicas i is; marks = marks })
 restarts_goes a marks i word was is up h here there calm rose failed m = record {
   loglet = (restarts_whole a marks (loglet_of a) i word was is up refl h here there calm rose failed m).1;

@@ -92,14 +92,14 @@ down_owned a c v i word was is e h here there down same =
 
 -- the servers once it is up, which it may have been before
 rises_servers : (a : Native) (c : Cell) (i : ℕ) (was is : View) → IsCellOf a c → i < length a.replicas → was ≡ get_or a.replicas i was → server c i ≡ was.server
-    → (was.server.up ≡ true → is ≡ was) → (kept : Bool) → is.server ≡ restarted was.server kept was.server.torn → (restart c i kept).servers ≡ map server_in (set a.replicas i is)
+    → (was.server.up ≡ true → is.server ≡ was.server) → (kept : Bool) → is.server ≡ restarted was.server kept was.server.torn → (restart c i kept).servers ≡ map server_in (set a.replicas i is)
 rises_servers a c i was is h here there same calm kept rose = by was.server.up refl
   where
     by : (b : Bool) → was.server.up ≡ b → (restart c i kept).servers ≡ map server_in (set a.replicas i is)
     by true u =
         let stays : (server c i).up ≡ true = ap (λ (s : Server). s.up) same ∙ u in
         let servers : (restart c i kept).servers ≡ c.servers = rw stays refl in
-        servers ∙ h.servers ∙ sym (set_same a.replicas i was is here (ap server_in (calm u) ∙ ap server_in there))
+        servers ∙ h.servers ∙ sym (set_same a.replicas i was is here (calm u ∙ ap server_in there))
     by false u =
         let down : (server c i).up ≡ false = ap (λ (s : Server). s.up) same ∙ u in
         let servers : (restart c i kept).servers ≡ set c.servers i (restarted (server c i) kept (server c i).torn) = rw down refl in
@@ -108,7 +108,7 @@ rises_servers a c i was is h here there same calm kept rose = by was.server.up r
 
 -- what a restart answers and does
 rises : (a : Native) (c : Cell) (v : LogletView) (i word : ℕ) (was is : View) → loglet_of a ≡ v → IsCellOf a c → i < length a.replicas → was ≡ get_or a.replicas i was → server c i ≡ was.server
-    → (was.server.up ≡ true → is ≡ was) → (kept : Bool) → is.server ≡ restarted was.server kept was.server.torn → IsOwned (restarted_to a i is false) × LogletStep v (CallRestart i word) (Restarted true) (loglet_of (restarted_to a i is false))
+    → (was.server.up ≡ true → is.server ≡ was.server) → (kept : Bool) → is.server ≡ restarted was.server kept was.server.torn → IsOwned (restarted_to a i is false) × LogletStep v (CallRestart i word) (Restarted true) (loglet_of (restarted_to a i is false))
 rises a c v i word was is e h here there same calm kept rose = up_owned a c v i word kept is e h here (rises_servers a c i was is h here there same calm kept rose)
 
 -- a restart that failed was one of a server that is down
@@ -117,16 +117,16 @@ down_yet true P k = absurd (false≢true (k refl).0)
 down_yet false P k = refl
 
 pub restarts_owned : (a : Native) (v : LogletView) (i word : ℕ) (was is : View) (up : Bool) → loglet_of a ≡ v → IsOwned a → i < length a.replicas → was ≡ get_or a.replicas i was
-    → (was.server.up ≡ true → (up ≡ true) × (is ≡ was)) → (up ≡ true → (kept : Bool) × (is.server ≡ restarted was.server kept was.server.torn)) → (up ≡ false → is.server ≡ was.server)
+    → (was.server.up ≡ true → (up ≡ true) × (is.server ≡ was.server)) → (up ≡ true → (kept : Bool) × (is.server ≡ restarted was.server kept was.server.torn)) → (up ≡ false → is.server ≡ was.server)
     → IsOwned (restarted_to a i is (not up)) × LogletStep v (CallRestart i word) (Restarted up) (loglet_of (restarted_to a i is (not up)))
-restarts_owned a v i word was is false e h here there calm rose failed = down_owned a h.0 v i word was is e h.1 here there (down_yet was.server.up (is ≡ was) calm) (failed refl)
+restarts_owned a v i word was is false e h here there calm rose failed = down_owned a h.0 v i word was is e h.1 here there (down_yet was.server.up (is.server ≡ was.server) calm) (failed refl)
 restarts_owned a v i word was is true e h here there calm rose failed = rises a h.0 v i word was is e h.1 here there (server_is a h.0 i was h.1 here there) (λ u. (calm u).1) (rose refl).0 (rose refl).1
 
 -- the steps of a restart, in the cell that the loglet is
 pub restarts_in : (a : Native) (c : Cell) (i word : ℕ) (was is : View) (up : Bool) → IsCellOf a c → i < length a.replicas → was ≡ get_or a.replicas i was
-    → (was.server.up ≡ true → (up ≡ true) × (is ≡ was)) → (up ≡ true → (kept : Bool) × (is.server ≡ restarted was.server kept was.server.torn)) → (up ≡ false → is.server ≡ was.server)
+    → (was.server.up ≡ true → (up ≡ true) × (is.server ≡ was.server)) → (up ≡ true → (kept : Bool) × (is.server ≡ restarted was.server kept was.server.torn)) → (up ≡ false → is.server ≡ was.server)
     → Reaches a c (CallRestart i word) (Restarted up) (restarted_to a i is (not up))
-restarts_in a c i word was is false h here there calm rose failed = record { steps = RestartFails i ∷ []; are = refl; cell = down_tied a c i was is h here there (down_yet was.server.up (is ≡ was) calm) (failed refl) }
+restarts_in a c i word was is false h here there calm rose failed = record { steps = RestartFails i ∷ []; are = refl; cell = down_tied a c i was is h here there (down_yet was.server.up (is.server ≡ was.server) calm) (failed refl) }
 restarts_in a c i word was is true h here there calm rose failed = record {
   steps = Restart i (rose refl).0 ∷ [];
   are = ((rose refl).0, refl);

@@ -1,6 +1,6 @@
 -- What the parts of the code come to, over plain values.
 use Rattle.std.proofs.Common.{◌≡◌, ℕ, zero, suc, ◌+◌, ◌-◌, ◌<◌, ◌≤◌, ◌^◌, Bool, true, false, cond, refl, sym, ◌∙◌, ap, subst, arith, List, [], ◌∷◌, ◌++◌, length, get_or, set, take, Option, Some, None, inl, inr}
-use Rattle.std.specs.Prelude.{◌⊎◌, ◌==◌, nat_lt, is_some, slice_get, count_by, option_map, if◌then◌else◌, Result, Ok, Err, IfOk, OnErr}
+use Rattle.std.specs.Prelude.{◌⊎◌, ◌&&◌, ◌==◌, nat_lt, is_some, slice_get, count_by, option_map, if◌then◌else◌, Result, Ok, Err, IfOk, OnErr}
 use Rattle.std.proofs.lemmas.Bool.{false≢true, cases_eq, eq-eqb, ne_eqb, ltb-true, ltb-false}
 use Rattle.std.proofs.lemmas.Option.{none-some, same_Some}
 use Rattle.std.proofs.lemmas.List.Sums.{sum_by-cons}
@@ -170,28 +170,32 @@ repair_there entries cut place errand is there = by (entry_at cut entries place)
     by (Some e) at h = (e, at)
 
 -- what writes nothing tells and leaves all as it was
+never_written : (b : Bool) → (b && false) ≡ true → ⊥
+never_written true e = false≢true e
+never_written false e = false≢true e
+
 pub tail_answers : (v : View) → ServerAnswers v asks.Tail (table v.server asks.Tail) v
 tail_answers v = by v.server.up refl
   where
     by : (b : Bool) → v.server.up ≡ b → ServerAnswers v asks.Tail (if b then told_up v.server asks.Tail else Down) v
-    by false u = record { told = rw u refl; server = rw u refl; calm = λ _. refl; disk = record { faults = refl; armed = refl } }
+    by false u = record { told = rw u refl; server = rw u refl; calm = λ _. refl; write = λ e. absurd (never_written v.server.up e); counts = (refl, refl) }
     by true u = at (is_sealed v.server) refl
       where
         at : (s : Bool) → is_sealed v.server ≡ s → ServerAnswers v asks.Tail (if s then Sealed (length_of v.server) else Unsealed (length_of v.server)) v
-        at true e = record { told = rw (u, e) refl; server = rw u refl; calm = λ _. refl; disk = record { faults = refl; armed = refl } }
-        at false e = record { told = rw (u, e) refl; server = rw u refl; calm = λ _. refl; disk = record { faults = refl; armed = refl } }
+        at true e = record { told = rw (u, e) refl; server = rw u refl; calm = λ _. refl; write = λ e. absurd (never_written v.server.up e); counts = (refl, refl) }
+        at false e = record { told = rw (u, e) refl; server = rw u refl; calm = λ _. refl; write = λ e. absurd (never_written v.server.up e); counts = (refl, refl) }
 
 pub read_answers : (v : View) (place : ℕ) → ServerAnswers v (asks.Read place) (table v.server (asks.Read place)) v
 read_answers v place = by v.server.up refl
   where
     by : (b : Bool) → v.server.up ≡ b → ServerAnswers v (asks.Read place) (if b then told_up v.server (asks.Read place) else Down) v
-    by false u = record { told = rw u refl; server = rw u refl; calm = λ _. refl; disk = record { faults = refl; armed = refl } }
+    by false u = record { told = rw u refl; server = rw u refl; calm = λ _. refl; write = λ e. absurd (never_written v.server.up e); counts = (refl, refl) }
     by true u = at (nat_lt place v.server.base) refl (slice_get v.server.entries (place - v.server.base)) refl
       where
         at : (b : Bool) → nat_lt place v.server.base ≡ b → (z : Option Entry) → slice_get v.server.entries (place - v.server.base) ≡ z → ServerAnswers v (asks.Read place) (if b then Cut v.server.base else told_entry (length_of v.server) z) v
-        at true e z f = record { told = rw (u, e) refl; server = rw u refl; calm = λ _. refl; disk = record { faults = refl; armed = refl } }
-        at false e None f = record { told = rw (u, e, f) refl; server = rw u refl; calm = λ _. refl; disk = record { faults = refl; armed = refl } }
-        at false e (Some x) f = record { told = rw (u, e, f) refl; server = rw u refl; calm = λ _. refl; disk = record { faults = refl; armed = refl } }
+        at true e z f = record { told = rw (u, e) refl; server = rw u refl; calm = λ _. refl; write = λ e. absurd (never_written v.server.up e); counts = (refl, refl) }
+        at false e None f = record { told = rw (u, e, f) refl; server = rw u refl; calm = λ _. refl; write = λ e. absurd (never_written v.server.up e); counts = (refl, refl) }
+        at false e (Some x) f = record { told = rw (u, e, f) refl; server = rw u refl; calm = λ _. refl; write = λ e. absurd (never_written v.server.up e); counts = (refl, refl) }
 
 ---- whether a server is sealed
 

@@ -5,19 +5,19 @@ use Rattle.std.proofs.lemmas.Bool.{false≢true, and_parts, or_left, or_right, o
 use Rattle.std.proofs.lemmas.Option.{none-some, same_Some}
 use Rattle.std.proofs.lemmas.List.{length-map}
 use Rattle.std.proofs.lemmas.List.Sums.{sum_by-cons}
-use Rattle.disk_model.specs.Disk.{DiskView, Rose}
-use Rattle.loglet_api.specs.Servers.{ServerState, ServersView, GoesDown, Wear, ChangesAt, IsArmed, RestartsTo, downs_of}
-use Rattle.loglet_api.specs.Step.{RoseBy}
+use Rattle.disk_model.specs.Disk.{DiskView, bumped as one_more}
+use Rattle.loglet_api.specs.Servers.{ServerState, GoesDown, Writes, Wears, Wear, TakesSome, TakeSome, ChangesAt, IsArmed, RestartsTo, MayReopen, downs_of}
+use Rattle.loglet_api.specs.Step.{bumped}
 use Rattle.quorum_cell.specs.declared.message.Ask.{Ask}
 use Rattle.quorum_cell.specs.declared.message.Told.{Told}
 use Rattle.quorum_cell.specs.declared.message.Told.TheVariants.{Down, DiskFault, Sealed, Unsealed, Behind, Ack, Cut, Short, Got, Trimmed}
 use Rattle.quorum_cell.specs.Servers.{Server, restarted, writes, written}
 use Rattle.quorum_cell.proofs.Table.{written_up, restarted_up}
-use Rattle.log_server.specs.View.{View, Spares}
-use Rattle.log_server.specs.Answers.{Answers as ServerAnswers, Tells as TellsSo, Stops as StopsSo}
+use Rattle.log_server.specs.View.{View, Spares, TakesWrite, Tries as TriesDisk}
+use Rattle.log_server.specs.Answers.{Answers as ServerAnswers, Tells as TellsSo, Stops as StopsSo, CountsNothing, wants_write, writes_behind}
 use Rattle.native_plan.specs.declared.pending.Pending.{Pending}
 use Rattle.delos_types.specs.declared.entry.Entry.{Entry}
-use Rattle.native_loglet.specs.Natives.{PendingList, state_of, state_in, states_in, down_in}
+use Rattle.native_loglet.specs.Natives.{Native, NativeView, PendingList, loglet_of, state_in, states_in, served_by, serving_of, down_in}
 use Rattle.native_loglet.specs.declared.mail.Mail.{Mail}
 use Rattle.native_loglet.specs.declared.mail.Mail.TheVariants as mail
 use Rattle.native_loglet.specs.Copies.{ComesAgain}
@@ -30,46 +30,83 @@ use Rattle.native_loglet.specs.Moving.{LosesAs, FailsAs, CanMove, MovesByLoss, M
 
 ---- one server
 
--- it is as it was, or went down
-abbrev pub Wears : View → View → Type 0
-Wears was is = (state_in is ≡ state_in was) ⊎ GoesDown (state_in was) (state_in is)
+-- counted in either order
+pub same_count : (n : ℕ) → one_more n ≡ bumped n
+same_count n = omega arith
 
-pub state_alike : (v w : View) → w.server.up ≡ v.server.up → Spares v.disk w.disk → state_in w ≡ state_in v
-state_alike v w up d = ap (λ b. state_of b (nat_lt 0 w.disk.armed) w.disk.faults) up ∙ ap (λ b. state_of v.server.up b w.disk.faults) d.armed ∙ ap (λ n. state_of v.server.up (nat_lt 0 v.disk.armed) n) d.faults
+-- the state of a server by its parts
+abbrev shown_as : Bool → ℕ → ℕ → ℕ → ℕ → ℕ → ServerState
+shown_as up armed word faults stops restarts = record { up = up; armed = armed; word = word; faults = faults; stops = stops; restarts = restarts }
+
+state_by : {u v : Bool} {a b w x f g s t r q : ℕ} → u ≡ v → a ≡ b → w ≡ x → f ≡ g → s ≡ t → r ≡ q → shown_as u a w f s r ≡ shown_as v b x g t q
+state_by up armed word faults stops restarts = rw (up, armed, word, faults, stops, restarts) refl
+
+-- what it shows of its count
+armed_up : (b : Bool) (n : ℕ) → b ≡ true → (if b then n else 0) ≡ n
+armed_up b n e = rw e refl
+
+armed_down : (b : Bool) (n : ℕ) → b ≡ false → (if b then n else 0) ≡ 0
+armed_down b n e = rw e refl
 
 -- want of memory
-pub state_spared : (v w : View) → w.server ≡ v.server → Spares v.disk w.disk → state_in w ≡ state_in v
-state_spared v w same d = state_alike v w (ap (λ (s : Server). s.up) same) d
+pub state_spared : (v w : View) → w ≡ record v { disk = w.disk } → Spares 1 v.disk w.disk → TakesSome (state_in v) (state_in w)
+state_spared v w same d = by v.server.up refl
+  where
+    up : w.server.up ≡ v.server.up
+    up = ap (λ (x : View). x.server.up) same
 
--- one that is down shows the same where no fault was counted
-pub state_down : (v w : View) → v.server.up ≡ false → w.server ≡ v.server → w.disk.faults ≡ v.disk.faults → state_in w ≡ state_in v
-state_down v w down same faults =
-    ap (λ b. state_of b (nat_lt 0 w.disk.armed) w.disk.faults) (ap (λ (s : Server). s.up) same ∙ down) ∙ ap (λ n. state_of false (nat_lt 0 v.disk.armed) n) faults ∙ sym (ap (λ b. state_of b (nat_lt 0 v.disk.armed) v.disk.faults) down)
+    is : state_in w ≡ record (state_in v) { armed = (state_in w).armed }
+    is = state_by up refl d.word d.faults (ap (λ (x : View). x.stops) same) (ap (λ (x : View). x.restarts) same)
 
-rose_by_one : (before now : ℕ) → Rose before now → before ≤ now → RoseBy 1 before now
-rose_by_one before now (inl more) kept = omega (arith, more)
-rose_by_one before now (inr full) kept = omega (arith, full, kept)
+    by : (b : Bool) → v.server.up ≡ b → TakesSome (state_in v) (state_in w)
+    by true u =
+        let was : (state_in v).armed ≡ v.disk.armed = armed_up v.server.up v.disk.armed u in
+        let now : (state_in w).armed ≡ w.disk.armed = armed_up w.server.up w.disk.armed (up ∙ u) in
+        record { is = is; fewer = omega (arith, was, now, d.spends.fewer); still = ap (nat_lt 0) now ∙ d.spends.still ∙ ap (nat_lt 0) (sym was) }
+    by false u =
+        let was : (state_in v).armed ≡ 0 = armed_down v.server.up v.disk.armed u in
+        let now : (state_in w).armed ≡ 0 = armed_down w.server.up w.disk.armed (up ∙ u) in
+        record { is = is; fewer = omega (arith, was, now); still = ap (nat_lt 0) (now ∙ sym was) }
 
+-- it failed in a write
 goes_down : (v w : View) (ask : Ask) → StopsSo v ask w → GoesDown (state_in v) (state_in w)
 goes_down v w ask h = record {
   was = (and_parts v.server.up (writes v.server ask) h.wanted).0;
-  rose = rose_by_one v.disk.faults w.disk.faults h.rose h.kept;
-  is = ap (λ b. state_of b (nat_lt 0 w.disk.armed) w.disk.faults) (ap (λ (s : Server). s.up) h.server);
+  is = state_by down (armed_down w.server.up w.disk.armed down) h.word (h.faults ∙ same_count v.disk.faults) h.counts.0 h.counts.1;
 }
+  where
+    down : w.server.up ≡ false
+    down = ap (λ (s : Server). s.up) h.server
+
+-- it wrote a record
+wrote_one : (v w : View) (ask : Ask) → v.server.up ≡ true → w.server.up ≡ v.server.up → TakesWrite (writes_behind ask) v.disk w.disk → CountsNothing v w → Writes (state_in v) (state_in w)
+wrote_one v w ask u up d counts =
+    let was : (state_in v).armed ≡ v.disk.armed = armed_up v.server.up v.disk.armed u in
+    let now : (state_in w).armed ≡ w.disk.armed = armed_up w.server.up w.disk.armed (up ∙ u) in
+    record {
+      up = u;
+      is = state_by up refl d.word d.faults counts.0 counts.1;
+      fewer = omega (arith, was, now, d.taken.taken);
+      still = ap (nat_lt 0) now ∙ d.taken.still ∙ ap (nat_lt 0) (sym was);
+    }
 
 -- what a server that was asked shows
-pub answers_wear : (v w : View) (ask : Ask) (told : Told) → ServerAnswers v ask told w → Wears v w
+pub answers_wear : (v w : View) (ask : Ask) (told : Told) → ServerAnswers v ask told w → Wears (state_in v) (state_in w)
 answers_wear v w ask told h = by told h
   where
     after_up : (b : Bool) → v.server.up ≡ b → (if b then written v.server ask else v.server).up ≡ v.server.up
     after_up true u = written_up v.server ask
     after_up false u = refl
 
-    tells : (z : Told) → TellsSo v ask z w → Wears v w
-    tells z t = inl (state_alike v w (ap (λ (s : Server). s.up) t.server ∙ after_up v.server.up refl) t.disk)
+    tells : (z : Told) → TellsSo v ask z w → Wears (state_in v) (state_in w)
+    tells z t = at (wants_write v.server ask) refl
+      where
+        at : (b : Bool) → wants_write v.server ask ≡ b → Wears (state_in v) (state_in w)
+        at false e = inl (ap state_in (t.calm e))
+        at true e = inr (inl (wrote_one v w ask (and_parts v.server.up (writes v.server ask) e).0 (ap (λ (s : Server). s.up) t.server ∙ after_up v.server.up refl) (t.write e) t.counts))
 
-    by : (z : Told) → ServerAnswers v ask z w → Wears v w
-    by DiskFault x = inr (goes_down v w ask x)
+    by : (z : Told) → ServerAnswers v ask z w → Wears (state_in v) (state_in w)
+    by DiskFault x = inr (inr (goes_down v w ask x))
     by Down x = tells Down x
     by (Sealed n) x = tells (Sealed n) x
     by (Unsealed n) x = tells (Unsealed n) x
@@ -85,60 +122,82 @@ armed_faults : (d : DiskView) (n : ℕ) (b : Bool) → (if b then d else record 
 armed_faults d n true = refl
 armed_faults d n false = refl
 
-pub state_armed : (v w : View) (after : ℕ) → w ≡ record v { disk = if v.disk.stopped then v.disk else record v.disk { armed = after } } → (v.server.up ≡ true → w.disk.armed ≡ after) → IsArmed after (state_in v) (state_in w)
-state_armed v w after is arms = by v.server.up refl
+armed_word : (d : DiskView) (n : ℕ) (b : Bool) → (if b then d else record d { armed = n }).word ≡ d.word
+armed_word d n true = refl
+armed_word d n false = refl
+
+pub state_armed : (v w : View) (after : ℕ) → w ≡ record v { disk = if v.disk.stopped then v.disk else record v.disk { armed = after }; stops = one_more v.stops } → (v.server.up ≡ true → w.disk.armed ≡ after) → IsArmed after (state_in v) (state_in w)
+state_armed v w after is arms = state_by up (by v.server.up refl)
+    (ap (λ (x : View). x.disk.word) is ∙ armed_word v.disk after v.disk.stopped)
+    (ap (λ (x : View). x.disk.faults) is ∙ armed_faults v.disk after v.disk.stopped)
+    (ap (λ (x : View). x.stops) is ∙ same_count v.stops)
+    (ap (λ (x : View). x.restarts) is)
   where
     up : w.server.up ≡ v.server.up
     up = ap (λ (x : View). x.server.up) is
 
-    faults : w.disk.faults ≡ v.disk.faults
-    faults = ap (λ (x : View). x.disk.faults) is ∙ armed_faults v.disk after v.disk.stopped
-
-    by : (b : Bool) → v.server.up ≡ b → state_in w ≡ state_of v.server.up (nat_lt 0 after) v.disk.faults
-    by true u = ap (λ b. state_of b (nat_lt 0 w.disk.armed) w.disk.faults) up ∙ ap (λ n. state_of v.server.up (nat_lt 0 n) w.disk.faults) (arms u) ∙ ap (λ n. state_of v.server.up (nat_lt 0 after) n) faults
-    by false u = ap (λ b. state_of b (nat_lt 0 w.disk.armed) w.disk.faults) (up ∙ u) ∙ ap (λ n. state_of false (nat_lt 0 after) n) faults ∙ sym (ap (λ b. state_of b (nat_lt 0 after) v.disk.faults) u)
+    by : (b : Bool) → v.server.up ≡ b → (state_in w).armed ≡ (if v.server.up then after else 0)
+    by true u = armed_up w.server.up w.disk.armed (up ∙ u) ∙ arms u ∙ sym (armed_up v.server.up after u)
+    by false u = armed_down w.server.up w.disk.armed (up ∙ u) ∙ sym (armed_down v.server.up after u)
 
 -- what a server shows that is told to come up
-pub record Reopened (v w : View) (up : Bool) : Type 0 where
-  pub calm : v.server.up ≡ true → (up ≡ true) × (w ≡ v)
+pub record Reopened (word : ℕ) (v w : View) (up : Bool) : Type 0 where
+  pub calm : v.server.up ≡ true → (up ≡ true) × (w ≡ record v { restarts = one_more v.restarts })
   pub restarted : up ≡ true → (kept : Bool) × (w.server ≡ restarted v.server kept v.server.torn)
-  pub failed : up ≡ false → (w.server ≡ v.server) × Rose v.disk.faults w.disk.faults
-  pub kept : v.disk.faults ≤ w.disk.faults
+  pub failed : up ≡ false → (w ≡ record v { disk = w.disk; restarts = one_more v.restarts }) × (w.disk.faults ≡ one_more v.disk.faults) × TriesDisk word v.disk w.disk
   pub no_fault : up ≡ true → w.disk.faults ≡ v.disk.faults
+  pub word_is : up ≡ true → v.server.up ≡ false → w.disk.word ≡ word
   pub disarmed : up ≡ true → v.server.up ≡ false → w.disk.armed ≡ 0
+  pub counted : up ≡ true → w.restarts ≡ one_more v.restarts
+  pub stops : w.stops ≡ v.stops
 
-pub state_reopened : (v w : View) (up : Bool) → Reopened v w up → RestartsTo up (state_in v) (state_in w)
-state_reopened v w true h = by v.server.up refl
+chosen : (b : Bool) (m n : ℕ) → b ≡ true → (if b then m else n) ≡ m
+chosen b m n e = rw e refl
+
+other : (b : Bool) (m n : ℕ) → b ≡ false → (if b then m else n) ≡ n
+other b m n e = rw e refl
+
+pub state_reopened : (word : ℕ) (v w : View) (up : Bool) → Reopened word v w up → RestartsTo word up (state_in v) (state_in w)
+state_reopened word v w true h = by v.server.up refl
   where
-    by : (b : Bool) → v.server.up ≡ b → state_in w ≡ record { up = true; armed = v.server.up && nat_lt 0 v.disk.armed; faults = v.disk.faults }
-    by true u = ap state_in (h.calm u).1 ∙ ap (λ b. record { up = b; armed = v.server.up && nat_lt 0 v.disk.armed; faults = v.disk.faults }) u
-    by false u =
-        ap (λ b. state_of b (nat_lt 0 w.disk.armed) w.disk.faults) (ap (λ (s : Server). s.up) (h.restarted refl).1 ∙ restarted_up v.server (h.restarted refl).0 v.server.torn)
-        ∙ ap (λ n. state_of true (nat_lt 0 n) w.disk.faults) (h.disarmed refl u)
-        ∙ ap (λ n. state_of true false n) (h.no_fault refl)
-        ∙ sym (ap (λ b. record { up = true; armed = b && nat_lt 0 v.disk.armed; faults = v.disk.faults }) u)
-state_reopened v w false h =
-    let down : v.server.up ≡ false = down_yet v.server.up h.calm in (
+    is_up : w.server.up ≡ true
+    is_up = ap (λ (s : Server). s.up) (h.restarted refl).1 ∙ restarted_up v.server (h.restarted refl).0 v.server.torn
+
+    by : (b : Bool) → v.server.up ≡ b → RestartsTo word true (state_in v) (state_in w)
+    by true u =
+        let is : w ≡ record v { restarts = one_more v.restarts } = (h.calm u).1 in
+        state_by is_up (armed_up w.server.up w.disk.armed is_up ∙ ap (λ (x : View). x.disk.armed) is ∙ sym (armed_up v.server.up v.disk.armed u)) (ap (λ (x : View). x.disk.word) is ∙ sym (chosen v.server.up v.disk.word word u)) (h.no_fault refl) h.stops (h.counted refl ∙ same_count v.restarts)
+    by false u = state_by is_up (armed_up w.server.up w.disk.armed is_up ∙ h.disarmed refl u ∙ sym (armed_down v.server.up v.disk.armed u)) (h.word_is refl u ∙ sym (other v.server.up v.disk.word word u)) (h.no_fault refl) h.stops (h.counted refl ∙ same_count v.restarts)
+state_reopened word v w false h =
+    let down : v.server.up ≡ false = down_yet v.server.up h.calm in
+    let is : w ≡ record v { disk = w.disk; restarts = one_more v.restarts } = (h.failed refl).0 in
+    let up : w.server.up ≡ v.server.up = ap (λ (x : View). x.server.up) is in (
       down,
-      rose_by_one v.disk.faults w.disk.faults (h.failed refl).1 h.kept,
-      ap (λ b. state_of b (nat_lt 0 w.disk.armed) w.disk.faults) (ap (λ (s : Server). s.up) (h.failed refl).0 ∙ down) ∙ sym (ap (λ b. state_of b (nat_lt 0 v.disk.armed) w.disk.faults) down),
+      (h.failed refl).2,
+      state_by up (armed_down w.server.up w.disk.armed (up ∙ down) ∙ sym (armed_down v.server.up v.disk.armed down)) refl ((h.failed refl).1 ∙ same_count v.disk.faults) h.stops (ap (λ (x : View). x.restarts) is ∙ same_count v.restarts),
     )
   where
-    down_yet : (b : Bool) → (b ≡ true → (false ≡ true) × (w ≡ v)) → b ≡ false
+    down_yet : (b : Bool) → (b ≡ true → (false ≡ true) × (w ≡ record v { restarts = one_more v.restarts })) → b ≡ false
     down_yet true k = absurd (false≢true (k refl).0)
     down_yet false k = refl
+
+-- it stays down, since there was no memory
+pub state_down : (word : ℕ) (v w : View) → v.server.up ≡ false → w ≡ record v { disk = w.disk } → w.disk.faults ≡ v.disk.faults → TriesDisk word v.disk w.disk → MayReopen word (state_in v) (state_in w)
+state_down word v w down is faults tries = by tries
+  where
+    up : w.server.up ≡ v.server.up
+    up = ap (λ (x : View). x.server.up) is
+
+    armed : (state_in w).armed ≡ (state_in v).armed
+    armed = armed_down w.server.up w.disk.armed (up ∙ down) ∙ sym (armed_down v.server.up v.disk.armed down)
+
+    by : TriesDisk word v.disk w.disk → MayReopen word (state_in v) (state_in w)
+    by (inl reopened) = inr (down, state_by up armed reopened faults (ap (λ (x : View). x.stops) is) (ap (λ (x : View). x.restarts) is))
+    by (inr same) = inl (state_by up armed same faults (ap (λ (x : View). x.stops) is) (ap (λ (x : View). x.restarts) is))
 
 pub refused : {A E : Type 0} (r : Result A E) {P : Type 0} → P → OnErr r P
 refused (Ok a) h = tt
 refused (Err e) h = h
-
--- a call that answers this where the server is up is refused only where it is down
-pub down_where : {E : Type 0} {e : E} (b : Bool) → (b ≡ true → Err e ≡ Ok true) → b ≡ false
-down_where true h = absurd (err_ok (h refl))
-  where
-    err_ok : {E : Type 0} {e : E} → Err e ≡ Ok true → ⊥
-    err_ok k = absurd (cc)
-down_where false h = refl
 
 ---- all servers
 
@@ -146,21 +205,25 @@ pub wear_same : (ss : List ServerState) → Wear ss ss
 wear_same [] = tt
 wear_same (s ∷ ss) = (inl refl, wear_same ss)
 
+pub take_none : (ss : List ServerState) → TakeSome ss ss
+take_none [] = tt
+take_none (s ∷ ss) = (record { is = refl; fewer = omega arith; still = refl }, take_none ss)
+
+pub take_at : (vs : List View) (i : ℕ) (was is : View) → i < length vs → was ≡ get_or vs i was → TakesSome (state_in was) (state_in is) → TakeSome (states_in vs) (states_in (set vs i is))
+take_at [] i was is here there h = absurd (omega (arith, here))
+take_at (v ∷ vs) zero was is here there h = (subst (λ (x : View). TakesSome (state_in x) (state_in is)) there h, take_none (states_in vs))
+take_at (v ∷ vs) (suc i) was is here there h = ((take_none (state_in v ∷ [])).0, take_at vs i was is (omega (arith, here)) there h)
+
 -- one of them was put in its own place
-pub wear_at : (vs : List View) (i : ℕ) (was is : View) → slice_get vs i ≡ Some was → Wears was is → Wear (states_in vs) (states_in (set vs i is))
+pub wear_at : (vs : List View) (i : ℕ) (was is : View) → slice_get vs i ≡ Some was → Wears (state_in was) (state_in is) → Wear (states_in vs) (states_in (set vs i is))
 wear_at [] i was is there h = absurd (none-some was there)
-wear_at (v ∷ vs) zero was is there h = (subst (λ (x : View). Wears x is) (sym (same_Some v was there)) h, wear_same (states_in vs))
+wear_at (v ∷ vs) zero was is there h = (subst (λ (x : View). Wears (state_in x) (state_in is)) (sym (same_Some v was there)) h, wear_same (states_in vs))
 wear_at (v ∷ vs) (suc i) was is there h = (inl refl, wear_at vs i was is there h)
 
 pub changes_at : (R : ServerState → ServerState → Type 0) (vs : List View) (i : ℕ) (was is : View) → i < length vs → was ≡ get_or vs i was → R (state_in was) (state_in is) → ChangesAt R i (states_in vs) (states_in (set vs i is))
 changes_at R [] i was is here there r = absurd (omega (arith, here))
 changes_at R (v ∷ vs) zero was is here there r = (subst (λ (x : View). R (state_in x) (state_in is)) there r, refl)
 changes_at R (v ∷ vs) (suc i) was is here there r = (refl, changes_at R vs i was is (omega (arith, here)) there r)
-
-pub states_same : (vs : List View) (i : ℕ) (was is : View) → i < length vs → was ≡ get_or vs i was → state_in is ≡ state_in was → states_in (set vs i is) ≡ states_in vs
-states_same [] i was is here there same = absurd (omega (arith, here))
-states_same (v ∷ vs) zero was is here there same = ap (λ (s : ServerState). s ∷ states_in vs) (same ∙ ap state_in there)
-states_same (v ∷ vs) (suc i) was is here there same = ap (λ (ss : List ServerState). state_in v ∷ ss) (states_same vs i was is (omega (arith, here)) there same)
 
 pub downs_are : (vs : List View) → down_in vs ≡ downs_of (states_in vs)
 downs_are [] = refl
@@ -172,13 +235,6 @@ downs_are (v ∷ vs) = sum_by-cons (λ (x : View). cond (not x.server.up) 1 0) v
 
 pub states_many : (vs : List View) → length (states_in vs) ≡ length vs
 states_many vs = length-map vs state_in
-
--- what is seen of these servers, or of these states
-abbrev pub states_with : List ServerState → ℕ → ServersView
-states_with ss told = record { states = ss; told = told }
-
-abbrev pub serving_with : List View → ℕ → ServersView
-serving_with vs told = states_with (states_in vs) told
 
 pub other_stays : (vs : List View) (i j : ℕ) (w : View) → (j ≡ i → ⊥) → slice_get (slice_set vs i w) j ≡ slice_get vs j
 other_stays [] i j w other = refl
@@ -307,3 +363,38 @@ pub comes_failed : (cut : ℕ) (z : Option Mail) (old new : PendingList) (vs ws 
 comes_failed cut None old new vs ws failed m = m.fault ∙ none_failed 0 (down_in vs) first_kept ∙ ap (λ (xs : List View). nat_lt (down_in vs) (down_in xs)) (sym m.servers)
 comes_failed cut (Some (mail.Asked t i x)) old new vs ws failed m = asked_failed 0 vs i m.was m.is x m.told failed first_kept m.there m.answers m.fault ∙ ap (λ (xs : List View). nat_lt (down_in vs) (down_in xs)) (sym m.servers)
 comes_failed cut (Some (mail.Told t i e z)) old new vs ws failed m = m.fault ∙ none_failed 0 (down_in vs) first_kept ∙ ap (λ (xs : List View). nat_lt (down_in vs) (down_in xs)) (sym m.servers)
+
+---- what is seen of the servers, once those that were lent are back
+
+pub carried_serves : (told carried strayed : ℕ) (a : Native) (w : NativeView) (word count : ℕ) (vs ws : List View) → record { loglet = loglet_of a; replicas = a.replicas; told = told; carried = carried; strayed = strayed; parts = a } ≡ w → vs ≡ ws → count ≡ bumped carried → Wear (states_in a.replicas) (states_in ws)
+    → Wear (states_in w.replicas) (states_in vs) × (served_by (states_in vs) word count strayed ≡ record (serving_of w) { states = states_in vs; told = word; carries = bumped w.carried })
+carried_serves told carried strayed a w word count vs ws e back counts h =
+    subst (λ (x : NativeView). Wear (states_in x.replicas) (states_in vs) × (served_by (states_in vs) word count strayed ≡ record (serving_of x) { states = states_in vs; told = word; carries = bumped x.carried })) e (
+      subst (λ (xs : List View). Wear (states_in a.replicas) (states_in xs)) (sym back) h,
+      ap (λ n. served_by (states_in vs) word n strayed) counts,
+    )
+
+pub strayed_serves : (told carried strayed : ℕ) (a : Native) (w : NativeView) (word count : ℕ) (vs ws : List View) → record { loglet = loglet_of a; replicas = a.replicas; told = told; carried = carried; strayed = strayed; parts = a } ≡ w → vs ≡ ws → count ≡ bumped strayed → Wear (states_in a.replicas) (states_in ws)
+    → Wear (states_in w.replicas) (states_in vs) × (served_by (states_in vs) word carried count ≡ record (serving_of w) { states = states_in vs; told = word; strays = bumped w.strayed })
+strayed_serves told carried strayed a w word count vs ws e back counts h =
+    subst (λ (x : NativeView). Wear (states_in x.replicas) (states_in vs) × (served_by (states_in vs) word carried count ≡ record (serving_of x) { states = states_in vs; told = word; strays = bumped x.strayed })) e (
+      subst (λ (xs : List View). Wear (states_in a.replicas) (states_in xs)) (sym back) h,
+      ap (λ n. served_by (states_in vs) word carried n) counts,
+    )
+
+pub spared_serves : (told carried strayed : ℕ) (a : Native) (w : NativeView) (vs ws : List View) → record { loglet = loglet_of a; replicas = a.replicas; told = told; carried = carried; strayed = strayed; parts = a } ≡ w → vs ≡ ws → TakeSome (states_in a.replicas) (states_in ws)
+    → TakeSome (states_in w.replicas) (states_in vs) × (served_by (states_in vs) told carried strayed ≡ record (serving_of w) { states = states_in vs })
+spared_serves told carried strayed a w vs ws e back h =
+    subst (λ (x : NativeView). TakeSome (states_in x.replicas) (states_in vs) × (served_by (states_in vs) told carried strayed ≡ record (serving_of x) { states = states_in vs })) e (
+      subst (λ (xs : List View). TakeSome (states_in a.replicas) (states_in xs)) (sym back) h,
+      refl,
+    )
+
+-- one server was put in the place of what it was
+pub put_serves : (told carried strayed : ℕ) (R : ServerState → ServerState → Type 0) (a : Native) (w : NativeView) (i : ℕ) (was is : View) → record { loglet = loglet_of a; replicas = a.replicas; told = told; carried = carried; strayed = strayed; parts = a } ≡ w → i < length a.replicas → was ≡ get_or a.replicas i was → R (state_in was) (state_in is)
+    → ChangesAt R i (states_in w.replicas) (states_in (set a.replicas i is)) × (served_by (states_in (set a.replicas i is)) told carried strayed ≡ record (serving_of w) { states = states_in (set a.replicas i is) })
+put_serves told carried strayed R a w i was is e here there r =
+    subst (λ (x : NativeView). ChangesAt R i (states_in x.replicas) (states_in (set a.replicas i is)) × (served_by (states_in (set a.replicas i is)) told carried strayed ≡ record (serving_of x) { states = states_in (set a.replicas i is) })) e (
+      changes_at R a.replicas i was is here there r,
+      refl,
+    )

@@ -12,10 +12,12 @@ use Rattle.majority_rule.specs.Majority.{majority}
 use Rattle.quorum_cell.specs.Servers.{Server, is_sealed}
 use Rattle.quorum_cell.specs.Cells.{no_server, no_operation, start}
 use Rattle.quorum_cell.proofs.Lawful.{start_lawful}
-use Rattle.log_server.specs.View.{View}
+use Rattle.disk_model.specs.Disk.{fresh as fresh_disk}
+use Rattle.loglet_api.specs.Servers.{ServerState, ServersView}
+use Rattle.log_server.specs.View.{View, Spares}
 use Rattle.native_loglet.specs.declared.marks.Marks.{Marks}
 use Rattle.native_loglet.specs.declared.mail.Mail.{Mail}
-use Rattle.native_loglet.specs.Natives.{PendingList, IsCount, IsNative, native_of, server_in, down_in, shut_in, look_in, loglet_of, IsOpenAs, IsCellOf}
+use Rattle.native_loglet.specs.Natives.{PendingList, IsCount, IsNative, native_of, server_in, down_in, shut_in, look_in, loglet_of, state_in, states_in, served_by, new_state, IsNew, IsOpenAs, IsCellOf}
 
 abbrev pub new_server : Server
 new_server = record no_server { up = true }
@@ -119,3 +121,24 @@ new_cell room es vs marks m ms count fresh rooms none same empty kept =
 pub new_shows : (room : ℕ) (es : List Entry) (vs : List View) (marks : Marks) (m : PendingList) (ms : List Mail) → IsCount (length vs) → All (λ (v : View). v.server ≡ new_server) vs → (1 ≤ room) × (room ≤ 2 ^ 32) → es ≡ [] → marks ≡ new_marks → m ≡ [] → ms ≡ [] → IsFresh (loglet_of (native_of room es vs marks m ms))
 new_shows room es vs marks m ms count fresh rooms none same empty kept =
     subst (λ (ks : List Mail). IsFresh (loglet_of (native_of room es vs marks m ks))) (sym kept) (subst (λ (xs : List Entry). IsFresh (loglet_of (native_of room xs vs marks m []))) (sym none) (subst (λ (x : Marks). IsFresh (loglet_of (native_of room [] vs x m []))) (sym same) (new_fresh room vs m count fresh rooms.0 rooms.1 empty)))
+
+-- so many that are new show the same
+new_each : (vs : List View) → All IsNew vs → states_in vs ≡ replicate (length vs) new_state
+new_each [] h = refl
+new_each (v ∷ vs) h = ap (λ (s : ServerState). s ∷ states_in vs) (All-head IsNew v vs h).0 ∙ ap (λ (ss : List ServerState). new_state ∷ ss) (new_each vs (All-tail IsNew v vs h))
+
+pub new_states : (n : ℕ) (vs : List View) → length vs ≡ n → All IsNew vs → states_in vs ≡ replicate n new_state
+new_states n vs many h = new_each vs h ∙ ap (λ k. replicate k new_state) many
+
+pub new_running : (vs : List View) → All IsNew vs → All (λ (v : View). v.disk.stopped ≡ false) vs
+new_running vs h = λ k d here. (h k d here).1
+
+-- a server that is up, on a disk as it was made but for writes
+pub new_one : (v : View) → v.server ≡ new_server → v.disk.stopped ≡ false → (v.stops ≡ 0) × (v.restarts ≡ 0) → Spares 4 fresh_disk v.disk → IsNew v
+new_one v server running none d =
+    let up : v.server.up ≡ true = ap (λ (s : Server). s.up) server in
+    let armed : v.disk.armed ≡ 0 = omega (arith, d.spends.fewer) in
+    (rw (up, armed, d.word, d.faults, none.0, none.1) refl, running)
+
+pub new_shown : (n : ℕ) (vs : List View) (s : ServersView) → length vs ≡ n → All IsNew vs → s ≡ served_by (states_in vs) 0 0 0 → s ≡ served_by (replicate n new_state) 0 0 0
+new_shown n vs s many h is = is ∙ ap (λ (ss : List ServerState). served_by ss 0 0 0) (new_states n vs many h)

@@ -43,7 +43,7 @@ pub carries_whole : (a : Native) (ws : List View) (n : PendingList) (ms : List M
 carries_whole a ws n ms marks v t word failed e h can moved kept is = subst (λ (x : Marks). LedTo v (CallCarry t word) Carried (record a { replicas = ws; pending = n; strays = ms; marks = x })) (sym is) (carries_owned a ws n ms v t word failed e h can moved kept)
 
 pub restarts_whole : (a : Native) (marks : Marks) (v : LogletView) (i word : ℕ) (was is : View) (up : Bool) → loglet_of a ≡ v → IsOwned a → i < length a.replicas → was ≡ get_or a.replicas i was
-    → (was.server.up ≡ true → (up ≡ true) × (is ≡ was)) → (up ≡ true → (kept : Bool) × (is.server ≡ restarted was.server kept was.server.torn)) → (up ≡ false → is.server ≡ was.server)
+    → (was.server.up ≡ true → (up ≡ true) × (is.server ≡ was.server)) → (up ≡ true → (kept : Bool) × (is.server ≡ restarted was.server kept was.server.torn)) → (up ≡ false → is.server ≡ was.server)
     → marks ≡ record a.marks { faults = faults_after (not up) a.marks.faults } → LedTo v (CallRestart i word) (Restarted up) (record a { replicas = set a.replicas i is; marks = marks })
 restarts_whole a marks v i word was is up e h here there calm rose failed m = subst (λ (x : Marks). LedTo v (CallRestart i word) (Restarted up) (record a { replicas = set a.replicas i is; marks = x })) (sym m) (restarts_owned a v i word was is up e h here there calm rose failed)
 

@@ -1,7 +1,8 @@
 -- What a native loglet shows, and what ties it to the quorum cell that it is.
-use Rattle.std.specs.Prelude.{◌≡◌, ◌⊎◌, ℕ, zero, suc, ◌+◌, ◌*◌, ◌^◌, ◌<◌, ◌≤◌, nat_eq, nat_le, nat_lt, not, ◌&&◌, Bool, true, false, cond, List, [], ◌∷◌, map, drop, length, count_by, slice_get, Option, None, Some}
+use Rattle.std.specs.Prelude.{◌≡◌, ◌⊎◌, ℕ, zero, suc, ◌+◌, ◌*◌, ◌^◌, ◌<◌, ◌≤◌, nat_eq, nat_le, not, Bool, true, false, cond, if◌then◌else◌, List, [], ◌∷◌, map, drop, length, count_by, slice_get, Option, None, Some}
 use Rattle.std.specs.Map.{lookup, KeepsOthers}
 use Rattle.delos_types.specs.declared.entry.Entry.{Entry}
+use Rattle.disk_model.specs.Disk.{DiskView}
 use Rattle.loglet_api.specs.declared.call.Kind.TheVariants.{Native as NativeKind}
 use Rattle.loglet_api.specs.View.{LogletView, Operation as OpenOperation}
 use Rattle.loglet_api.specs.Servers.{ServerState, ServersView}
@@ -97,30 +98,45 @@ loglet_of a = record {
   lacks = a.marks.lacks;
 }
 
--- a native loglet: what every loglet shows, its servers with their disks, the word or count that it was told last, and its parts
+-- a native loglet: what every loglet shows, its servers with their disks, the word that the last carry or stray was given,
+-- how many carries and strays there were, and its parts
 pub record NativeView : Type 0 where
   pub loglet : LogletView
   pub replicas : List View
   pub told : ℕ
+  pub carried : ℕ
+  pub strayed : ℕ
   pub parts : Native
 
-abbrev pub native_view : ℕ → List Entry → List View → Marks → PendingList → List Mail → ℕ → NativeView
-native_view room entries replicas marks pending strays told = record { loglet = loglet_of (native_of room entries replicas marks pending strays); replicas = replicas; told = told; parts = native_of room entries replicas marks pending strays }
+abbrev pub native_view : ℕ → List Entry → List View → Marks → PendingList → List Mail → ℕ → ℕ → ℕ → NativeView
+native_view room entries replicas marks pending strays told carried strayed = record { loglet = loglet_of (native_of room entries replicas marks pending strays); replicas = replicas; told = told; carried = carried; strayed = strayed; parts = native_of room entries replicas marks pending strays }
 
 ---- what is seen of its servers
 
 -- one that is down isn't armed
-abbrev pub state_of : Bool → Bool → ℕ → ServerState
-state_of up armed faults = record { up = up; armed = up && armed; faults = faults }
+abbrev pub state_of : Bool → DiskView → ℕ → ℕ → ServerState
+state_of up disk stops restarts = record { up = up; armed = if up then disk.armed else 0; word = disk.word; faults = disk.faults; stops = stops; restarts = restarts }
 
 abbrev pub state_in : View → ServerState
-state_in v = state_of v.server.up (nat_lt 0 v.disk.armed) v.disk.faults
+state_in v = state_of v.server.up v.disk v.stops v.restarts
+
+-- one of which nothing was asked, whose disk wasn't armed, reopened or failed
+abbrev pub new_state : ServerState
+new_state = record { up = true; armed = 0; word = 0; faults = 0; stops = 0; restarts = 0 }
+
+-- so it is seen, and its disk isn't stopped
+abbrev pub IsNew : View → Type 0
+IsNew v = (state_in v ≡ new_state) × (v.disk.stopped ≡ false)
 
 abbrev pub states_in : List View → List ServerState
 states_in vs = map state_in vs
 
+-- servers in these states, of a loglet that was told this word last, after so many carries and strays
+abbrev pub served_by : List ServerState → ℕ → ℕ → ℕ → ServersView
+served_by states told carried strayed = record { states = states; told = told; carries = carried; strays = strayed }
+
 abbrev pub serving_of : NativeView → ServersView
-serving_of v = record { states = states_in v.replicas; told = v.told }
+serving_of v = served_by (states_in v.replicas) v.told v.carried v.strayed
 
 ---- the cell that it is
 

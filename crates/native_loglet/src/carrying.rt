@@ -11,7 +11,7 @@ ghost use Rattle.fate_words.specs.Words.{fate_of};
 ghost use Rattle.native_plan.specs.Members.{no_member, is_out, turn_of};
 ghost use Rattle.native_plan.specs.Pendings.{Answers};
 ghost use Rattle.native_ties.specs.Parts.{asked_by};
-ghost use Rattle.loglet_api.specs.Servers.{Wear};
+ghost use Rattle.loglet_api.specs.Servers.{Wear, TakesSome, TakeSome};
 ghost use Rattle.native_loglet.specs.Natives.{server_in, state_in, states_in, down_in};
 ghost use Rattle.native_loglet.specs.Faults.{is_failed};
 ghost use Rattle.native_loglet.specs.Moving.{CanMove, Moves, picked_by, LosesAs, FailsAs, AnswersFor};
@@ -48,7 +48,7 @@ pub fn carry_one<D: Disk>(
     ensures p { OnErr result (p.new ≡ p.old) }
     ensures memory { OnErr result (map server_in replicas.new ≡ map server_in replicas.old) }
     ensures wear { IfOk result (λ _. Wear (states_in replicas.old) (states_in replicas.new)) }
-    ensures spared { OnErr result (states_in replicas.new ≡ states_in replicas.old) }
+    ensures spared { OnErr result (TakeSome (states_in replicas.old) (states_in replicas.new)) }
     ensures failed { IfOk result (λ failed. failed ≡ is_failed word (down_in replicas.old) (down_in replicas.new)) }
     ensures disks { KeepDisks replicas.old replicas.new }
 {
@@ -121,7 +121,7 @@ fn ask<D: Disk>(
     ensures answers { IfOk result (AnswersFor entries.now.items cut server errand p.old p.new replica.old replica.new) }
     ensures p { OnErr result (p.new ≡ p.old) }
     ensures memory { OnErr result (replica.new.server ≡ replica.old.server) }
-    ensures spared { OnErr result (state_in replica.new ≡ state_in replica.old) }
+    ensures spared { OnErr result (TakesSome (state_in replica.old) (state_in replica.new)) }
     ensures survives { Survives replica.new }
 {
     let told = replica.ask(errand, entries, cut)?;

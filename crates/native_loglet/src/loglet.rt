@@ -1,21 +1,22 @@
 //! A loglet of several servers.
-ghost use Rattle.std.specs.Prelude.{◌≡◌, ◌≢◌, ℕ, ◌+◌, ◌<◌, ◌≤◌, ◌^◌, ◌⊎◌, ◌↔◌, IsTrue, true, nat_lt, [], All, Some, length, slice_get, nat_eq, map, not, IfOk, OnOk, OnErr};
+ghost use Rattle.std.specs.Prelude.{◌≡◌, ◌≢◌, ℕ, ◌+◌, ◌%◌, ◌<◌, ◌≤◌, ◌^◌, ◌⊎◌, ◌↔◌, IsTrue, true, nat_lt, [], All, Some, length, slice_get, nat_eq, map, not, IfOk, OnOk, OnErr};
 ghost use Rattle.std.specs.HashMap.{IsUnchanged};
 ghost use Rattle.delos_types.specs.Spelling.{IsSpellable};
 ghost use Rattle.delos_types.specs.declared.entry.Entry as entries_of;
-ghost use Rattle.loglet_api.specs.Step.{IsAppend, CanCall, LogletStep};
+ghost use Rattle.loglet_api.specs.Step.{IsAppend, CanCall, LogletStep, bumped};
 ghost use Rattle.loglet_api.specs.Answers.{begin_answer, carry_answer, stray_answer, restart_answer};
 ghost use Rattle.loglet_api.specs.View.{IsFresh};
 ghost use Rattle.majority_rule.specs.Majority.{majority};
 ghost use Rattle.quorum_cell.specs.Cells.{no_server, start};
 ghost use Rattle.native_plan.specs.declared.pending.Pending as pendings;
-ghost use Rattle.loglet_api.specs.Servers.{Wear, Serves};
-ghost use Rattle.native_loglet.specs.Natives.{IsCount, IsCellOf, look_in, loglet_of, server_in, states_in, serving_of, down_in};
+ghost use Rattle.loglet_api.specs.Servers.{Wear, TakeSome, Serves};
+ghost use Rattle.native_loglet.specs.Natives.{IsCount, IsCellOf, look_in, loglet_of, server_in, states_in, served_by, serving_of, down_in};
 ghost use Rattle.native_loglet.specs.Steps.{NativeStep};
-ghost use Rattle.native_loglet.specs.Disks.{KeepDisks};
+ghost use Rattle.log_server.specs.View.{View as server_views};
+ghost use Rattle.native_loglet.specs.Disks.{KeepDisks, armed_by};
 ghost use Rattle.native_loglet.specs.Faults.{faults_after, is_failed};
 ghost use Rattle.native_loglet.specs.Moving.{CanMove, CarriesAt};
-ghost use Rattle.native_loglet.specs.Copies.{copy_of, copy_in, kept_after};
+ghost use Rattle.native_loglet.specs.Copies.{copy_of, copy_in, kept_after, ComesAgain};
 
 use crate::carrying::carry_one;
 use crate::closing::{answer, take_decided};
@@ -63,8 +64,12 @@ pub struct NativeLoglet<D: Disk> {
     pending: HashMap<u64, Pending>,
     /// Copies of messages that came, which may come again.
     strays: Bag<Mail>,
-    /// The word or count of the last carry, stray, stop or restart that wasn't refused.
+    /// The word of the last carry or stray that wasn't refused.
     told: u64,
+    /// How many carries weren't refused; it stands still at 2^64 - 1.
+    carried: u64,
+    /// How many strays weren't refused; it stands still at 2^64 - 1.
+    strayed: u64,
 }
 
 impl<D: Disk> Model for NativeLoglet<D> {
@@ -72,7 +77,7 @@ impl<D: Disk> Model for NativeLoglet<D> {
 
     ghost Value = { NativeView };
 
-    ghost view = { λ a. native_view a.room a.entries.items a.replicas.items a.marks a.pending.entries a.strays a.told };
+    ghost view = { λ a. native_view a.room a.entries.items a.replicas.items a.marks a.pending.entries a.strays a.told a.carried a.strayed };
 
     ghost invariant = { λ a. IsNative a.room a.entries.items a.replicas.items a.marks a.pending.entries a.strays };
 }
@@ -93,7 +98,7 @@ impl<D: Disk> NativeLoglet<D> {
         ensures rounds { result.loglet.rounds ≡ 7 }
         ensures limit { result.loglet.limit ≡ 2 ^ 62 }
         ensures replicas { result.replicas ≡ replicas.items }
-        ensures told { result.told ≡ 0 }
+        ensures serving { serving_of result ≡ served_by (states_in replicas.items) 0 0 0 }
         ensures strays { result.parts.strays ≡ [] }
         ensures quorum { result.loglet.quorum ≡ majority (length replicas.items) }
         ensures shown { result.loglet ≡ loglet_of result.parts }
@@ -110,6 +115,8 @@ impl<D: Disk> NativeLoglet<D> {
             pending: HashMap::new(alloc),
             strays: Bag::new(alloc),
             told: 0,
+            carried: 0,
+            strayed: 0,
         }
     }
 }
@@ -154,6 +161,9 @@ impl<D: Disk> Loglet for NativeLoglet<D> {
         ensures step { LogletStep self.old.loglet (LogletCall.Begin op) (begin_answer result) self.new.loglet }
         ensures serves { Serves (serving_of self.old) (LogletCall.Begin op) (begin_answer result) (serving_of self.new) }
 
+        // The servers with their disks, the copies and what was counted of carries and strays stay as they are.
+        ensures rest { self.new ≡ record self.old { loglet = self.new.loglet; parts = record self.old.parts { entries = self.new.parts.entries; marks = self.new.parts.marks; pending = self.new.parts.pending } } }
+
         // The operation begins in its cell, or is refused there as full.
         ensures goes { NativeStep self.old.parts (LogletCall.Begin op) (begin_answer result) self.new.parts }
     {
@@ -181,6 +191,9 @@ impl<D: Disk> Loglet for NativeLoglet<D> {
         ensures step { LogletStep self.old.loglet (LogletCall.Carry ticket word) (carry_answer result) self.new.loglet }
         ensures serves { Serves (serving_of self.old) (LogletCall.Carry ticket word) (carry_answer result) (serving_of self.new) }
 
+        // One message moves, and moves once: at most one server is asked.
+        ensures moves { (p : pendings.Pending) → look_in self.old.parts.pending ticket ≡ Some p → OnOk result (CarriesAt self.old.parts.entries self.old.parts.marks.cut ticket word p self.old.parts.pending self.new.parts.pending self.old.replicas self.new.replicas (is_failed word self.old.loglet.down self.new.loglet.down)) }
+
         // A fault is counted where the message is lost and where the disk of its server failed, and else none.
         ensures counts { OnOk result (self.new.loglet.faults ≡ faults_after (is_failed word self.old.loglet.down self.new.loglet.down) self.old.loglet.faults) }
 
@@ -207,6 +220,7 @@ impl<D: Disk> Loglet for NativeLoglet<D> {
         };
         self.marks = self.marks.after(failed);
         self.told = word;
+        self.carried = one_more(self.carried);
         Ok(())
     }
 
@@ -214,6 +228,9 @@ impl<D: Disk> Loglet for NativeLoglet<D> {
         requires { CanCall self.old.loglet (LogletCall.Take ticket) }
         ensures step { LogletStep self.old.loglet (LogletCall.Take ticket) (LogletAnswer.Taken result) self.new.loglet }
         ensures serves { Serves (serving_of self.old) (LogletCall.Take ticket) (LogletAnswer.Taken result) (serving_of self.new) }
+
+        // Nothing changes but the operation and what was told.
+        ensures rest { self.new ≡ record self.old { loglet = self.new.loglet; parts = record self.old.parts { marks = self.new.parts.marks; pending = self.new.parts.pending } } }
 
         // The outcome of this operation is given in its cell, and it is closed.
         ensures goes { NativeStep self.old.parts (LogletCall.Take ticket) (LogletAnswer.Taken result) self.new.parts }
@@ -229,6 +246,9 @@ impl<D: Disk> Loglet for NativeLoglet<D> {
         requires { CanCall self.old.loglet (LogletCall.Forget ticket) }
         ensures step { LogletStep self.old.loglet (LogletCall.Forget ticket) LogletAnswer.Forgotten self.new.loglet }
         ensures serves { Serves (serving_of self.old) (LogletCall.Forget ticket) LogletAnswer.Forgotten (serving_of self.new) }
+
+        // Nothing changes but the operation.
+        ensures rest { self.new ≡ record self.old { loglet = self.new.loglet; parts = record self.old.parts { pending = self.new.parts.pending } } }
 
         // This operation is closed in its cell.
         ensures goes { NativeStep self.old.parts (LogletCall.Forget ticket) LogletAnswer.Forgotten self.new.parts }
@@ -252,6 +272,9 @@ impl<D: Disk> Loglet for NativeLoglet<D> {
         // the answer to the operation that hears it. Where there is no copy, nothing does.
         ensures goes { NativeStep self.old.parts (LogletCall.Stray word) (stray_answer result) self.new.parts }
 
+        // One copy comes, and comes once.
+        ensures comes { OnOk result (ComesAgain self.old.parts.marks.cut (slice_get self.old.parts.strays (word % length self.old.parts.strays)) self.old.parts.pending self.new.parts.pending self.old.replicas self.new.replicas (nat_lt self.old.loglet.down self.new.loglet.down)) }
+
         // A fault is counted where the disk of the server failed, and else none.
         ensures counts { OnOk result (self.new.loglet.faults ≡ faults_after (nat_lt self.old.loglet.down self.new.loglet.down) self.old.loglet.faults) }
 
@@ -272,6 +295,7 @@ impl<D: Disk> Loglet for NativeLoglet<D> {
         };
         self.marks = marks;
         self.told = word;
+        self.strayed = one_more(self.strayed);
         Ok(())
     }
 
@@ -282,6 +306,10 @@ impl<D: Disk> Loglet for NativeLoglet<D> {
         ensures serves { Serves (serving_of self.old) (LogletCall.Stop server after) LogletAnswer.Stopped (serving_of self.new) }
         ensures goes { NativeStep self.old.parts (LogletCall.Stop server after) LogletAnswer.Stopped self.new.parts }
 
+        // Nothing changes but the disk of this server, which is armed with the count, unless it is stopped.
+        ensures rest { self.new ≡ record self.old { loglet = self.new.loglet; replicas = self.new.replicas; parts = record self.old.parts { replicas = self.new.replicas } } }
+        ensures arms { (v : server_views) → slice_get self.old.replicas server ≡ Some v → slice_get self.new.replicas server ≡ Some (armed_by after v) }
+
         // A crash leaves of each disk that it touched what its server is.
         ensures disks { KeepDisks self.old.replicas self.new.replicas }
 
@@ -289,7 +317,6 @@ impl<D: Disk> Loglet for NativeLoglet<D> {
         ensures others { (i : ℕ) → i ≢ server → slice_get self.new.replicas i ≡ slice_get self.old.replicas i }
     {
         self.replicas[server as usize].stop(after);
-        self.told = after;
     }
 
     #[tactic(auto, using(crate::proofs::Serving::other_stays))]
@@ -300,6 +327,9 @@ impl<D: Disk> Loglet for NativeLoglet<D> {
 
         // The other servers and their disks stay as they are.
         ensures others { (i : ℕ) → i ≢ server → slice_get self.new.replicas i ≡ slice_get self.old.replicas i }
+
+        // Nothing changes but this server with its disk, and the count of faults.
+        ensures rest { self.new ≡ record self.old { loglet = self.new.loglet; replicas = self.new.replicas; parts = record self.old.parts { replicas = self.new.replicas; marks = self.new.parts.marks } } }
 
         // A fault is counted where it stays down, and else none.
         ensures counts { IfOk result (λ up. self.new.loglet.faults ≡ faults_after (not up) self.old.loglet.faults) }
@@ -314,9 +344,15 @@ impl<D: Disk> Loglet for NativeLoglet<D> {
             return Err(Refused::Memory);
         };
         self.marks = self.marks.after(!up);
-        self.told = word;
         Ok(up)
     }
+}
+
+/// A count, once there is one more; it stands still at 2^64 - 1.
+fn one_more(count: u64) -> u64
+    ensures { result ≡ bumped count }
+{
+    count.saturating_add(1)
 }
 
 /// Whether no more operations of this kind can be begun.
@@ -344,7 +380,7 @@ fn carry_keeping<D: Disk>(
     ensures pending { OnErr result ((t : ℕ) → look_in pending.new.entries t ≡ look_in pending.old.entries t) }
     ensures memory { OnErr result (map server_in replicas.new ≡ map server_in replicas.old) }
     ensures wear { IfOk result (λ _. Wear (states_in replicas.old) (states_in replicas.new)) }
-    ensures spared { OnErr result (states_in replicas.new ≡ states_in replicas.old) }
+    ensures spared { OnErr result (TakeSome (states_in replicas.old) (states_in replicas.new)) }
     ensures disks { KeepDisks replicas.old replicas.new }
     ensures failed { (p : pendings.Pending) → look_in pending.old.entries number ≡ Some p → IfOk result (λ failed. failed ≡ is_failed word (down_in replicas.old) (down_in replicas.new)) }
     ensures keeps { IfOk result (λ _. strays.new ≡ kept_after (copy_of entries.now.items cut number word (length strays.old) (look_in pending.old.entries number)) strays.old) }
@@ -377,7 +413,7 @@ fn carry_at<D: Disk>(
     ensures pending { OnErr result ((t : ℕ) → look_in pending.new.entries t ≡ look_in pending.old.entries t) }
     ensures memory { OnErr result (map server_in replicas.new ≡ map server_in replicas.old) }
     ensures wear { IfOk result (λ _. Wear (states_in replicas.old) (states_in replicas.new)) }
-    ensures spared { OnErr result (states_in replicas.new ≡ states_in replicas.old) }
+    ensures spared { OnErr result (TakeSome (states_in replicas.old) (states_in replicas.new)) }
     ensures disks { KeepDisks replicas.old replicas.new }
     ensures failed { (p : pendings.Pending) → look_in pending.old.entries number ≡ Some p → IfOk result (λ failed. failed ≡ is_failed word (down_in replicas.old) (down_in replicas.new)) }
 {

@@ -2,13 +2,15 @@
 ghost use Rattle.std.specs.Prelude.{◌≡◌, ℕ, ◌+◌, ◌^◌, ◌≤◌, ◌<◌, true, false, Bool, if◌then◌else◌, Some, Ok, IfOk, OnErr, List, length, slice_get};
 ghost use Rattle.delos_types.specs.Spelling.{IsSpellable};
 ghost use Rattle.delos_types.specs.declared.entry.Entry as entries_of;
+ghost use Rattle.disk_model.specs.Disk.{bumped};
 ghost use Rattle.quorum_cell.specs.declared.message.Ask as asks;
 ghost use Rattle.quorum_cell.specs.Servers.{length_of, is_sealed, restarted};
 ghost use Rattle.log_server.specs.View.{View as server_views, Spares, Survives};
-ghost use Rattle.loglet_api.specs.Servers.{IsArmed, RestartsTo};
+ghost use Rattle.loglet_api.specs.Servers.{TakesSome, IsArmed, RestartsTo, MayReopen};
 ghost use Rattle.log_server.specs.Answers.{Answers};
 ghost use Rattle.native_ties.specs.Parts.{asked_by};
 ghost use Rattle.native_loglet.specs.Natives.{state_in};
+ghost use Rattle.native_loglet.specs.Disks.{armed_by};
 ghost use Rattle.native_loglet.specs.Copies.{CanAsk};
 ghost use Rattle.native_loglet.specs.Telling.{seal_told_by, length_told_by};
 
@@ -46,8 +48,11 @@ impl<D: Disk> Replica<D> {
     /// A server that is up.
     pub fn new(server: LogServer<D>) -> Replica<D>
         requires { server.server.up ≡ true }
-        ensures { result ≡ server }
+        ensures value { result ≡ server }
+        ensures running { result.disk.stopped ≡ false }
     {
+        let up = server.is_up();
+        prove!(up);
         let sealed = is_sealed_now(&server, false);
         Replica { server, sealed }
     }
@@ -85,7 +90,7 @@ impl<D: Disk> Replica<D> {
         requires small { cut + length entries.now.items ≤ 2 ^ 32 }
         ensures answers { IfOk result (λ told. (ask : asks.Ask) → asked_by entries.now.items cut errand ≡ Some ask → Answers self.old ask told self.new) }
         ensures memory { OnErr result (self.new.server ≡ self.old.server) }
-        ensures spared { OnErr result (state_in self.new ≡ state_in self.old) }
+        ensures spared { OnErr result (TakesSome (state_in self.old) (state_in self.new)) }
         ensures survives { Survives self.new }
     {
         let told = send(&mut self.server, errand, entries, cut)?;
@@ -100,7 +105,7 @@ impl<D: Disk> Replica<D> {
         requires can { CanAsk ask.now }
         ensures answers { IfOk result (λ told. Answers self.old ask.now told self.new) }
         ensures memory { OnErr result (self.new.server ≡ self.old.server) }
-        ensures spared { OnErr result (state_in self.new ≡ state_in self.old) }
+        ensures spared { OnErr result (TakesSome (state_in self.old) (state_in self.new)) }
         ensures survives { Survives self.new }
     {
         let told = send_again(&mut self.server, ask)?;
@@ -110,7 +115,7 @@ impl<D: Disk> Replica<D> {
 
     /// Arms its disk: the write number `after` from now on stops inside itself; 0 takes that back.
     pub fn stop(&mut self, after: u64)
-        ensures server { self.new.server ≡ self.old.server }
+        ensures stops { self.new ≡ armed_by after self.old }
         ensures arms { IsArmed after (state_in self.old) (state_in self.new) }
         ensures count { self.old.server.up ≡ true → self.new.disk.armed ≡ after }
         ensures survives { Survives self.new }
@@ -123,12 +128,12 @@ impl<D: Disk> Replica<D> {
     ///
     /// Cost: one pass over its records.
     pub fn restart(&mut self, word: u64) -> Result<bool, AllocError>
-        ensures up { self.old.server.up ≡ true → (result ≡ Ok true) × (self.new ≡ self.old) }
+        ensures up { self.old.server.up ≡ true → (result ≡ Ok true) × (self.new ≡ record self.old { restarts = bumped self.old.restarts }) }
         ensures restarted { result ≡ Ok true → (kept : Bool) × (self.new.server ≡ restarted self.old.server kept self.old.server.torn) }
         ensures failed { result ≡ Ok false → self.new.server ≡ self.old.server }
         ensures memory { OnErr result (self.new.server ≡ self.old.server) }
-        ensures rises { IfOk result (λ up. RestartsTo up (state_in self.old) (state_in self.new)) }
-        ensures spared { OnErr result (state_in self.new ≡ state_in self.old) }
+        ensures rises { IfOk result (λ up. RestartsTo word up (state_in self.old) (state_in self.new)) }
+        ensures spared { OnErr result (MayReopen word (state_in self.old) (state_in self.new)) }
         ensures survives { Survives self.new }
     {
         let up = self.server.restart(word)?;
@@ -178,8 +183,8 @@ fn send<D: Disk>(
     requires spelled { (i : ℕ) (e : entries_of.Entry) → slice_get entries.now.items i ≡ Some e → IsSpellable e }
     requires small { cut + length entries.now.items ≤ 2 ^ 32 }
     ensures answers { IfOk result (λ told. (ask : asks.Ask) → asked_by entries.now.items cut errand ≡ Some ask → Answers server.old ask told server.new) }
-    ensures memory { OnErr result (server.new.server ≡ server.old.server) }
-    ensures spared { OnErr result (Spares server.old.disk server.new.disk) }
+    ensures memory { OnErr result (server.new ≡ record server.old { disk = server.new.disk }) }
+    ensures spared { OnErr result (Spares 1 server.old.disk server.new.disk) }
     ensures survives { Survives server.new }
 {
     match errand {
@@ -196,8 +201,8 @@ fn send<D: Disk>(
 fn send_again<D: Disk>(server: &mut LogServer<D>, ask: &Ask) -> Result<Told, AllocError>
     requires can { CanAsk ask.now }
     ensures answers { IfOk result (λ told. Answers server.old ask.now told server.new) }
-    ensures memory { OnErr result (server.new.server ≡ server.old.server) }
-    ensures spared { OnErr result (Spares server.old.disk server.new.disk) }
+    ensures memory { OnErr result (server.new ≡ record server.old { disk = server.new.disk }) }
+    ensures spared { OnErr result (Spares 1 server.old.disk server.new.disk) }
     ensures survives { Survives server.new }
 {
     match ask {

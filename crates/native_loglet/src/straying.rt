@@ -1,5 +1,6 @@
 //! What a copy does that comes again.
 ghost use Rattle.std.specs.Prelude.{◌≡◌, ℕ, ◌<◌, ◌%◌, None, Some, IfOk, OnErr, length, nat_lt, slice_get, map};
+ghost use Rattle.loglet_api.specs.Servers.{TakeSome};
 ghost use Rattle.native_plan.specs.declared.pending.Pending as pendings;
 ghost use Rattle.native_loglet.specs.declared.mail.Mail as mails;
 ghost use Rattle.native_loglet.specs.Disks.{KeepDisks};
@@ -38,7 +39,7 @@ pub fn count_stray<D: Disk>(
     ensures counts { IfOk result (λ counted. counted ≡ record marks { faults = faults_after (nat_lt (down_in replicas.old) (down_in replicas.new)) marks.faults }) }
     ensures pending { OnErr result ((t : ℕ) → look_in pending.new.entries t ≡ look_in pending.old.entries t) }
     ensures memory { OnErr result (map server_in replicas.new ≡ map server_in replicas.old) }
-    ensures spared { OnErr result (states_in replicas.new ≡ states_in replicas.old) }
+    ensures spared { OnErr result (TakeSome (states_in replicas.old) (states_in replicas.new)) }
     ensures disks { KeepDisks replicas.old replicas.new }
 {
     let failed = stray_at(strays, pending, replicas, marks.cut, word)?;
@@ -59,7 +60,7 @@ fn stray_at<D: Disk>(
     ensures comes { IfOk result (ComesAgain cut (slice_get strays.now (word % length strays.now)) pending.old.entries pending.new.entries replicas.old replicas.new) }
     ensures pending { OnErr result ((t : ℕ) → look_in pending.new.entries t ≡ look_in pending.old.entries t) }
     ensures memory { OnErr result (map server_in replicas.new ≡ map server_in replicas.old) }
-    ensures spared { OnErr result (states_in replicas.new ≡ states_in replicas.old) }
+    ensures spared { OnErr result (TakeSome (states_in replicas.old) (states_in replicas.new)) }
     ensures disks { KeepDisks replicas.old replicas.new }
 {
     match strays.stray(word) {
@@ -80,7 +81,7 @@ fn come_again<D: Disk>(
     ensures comes { IfOk result (ComesAgain cut (Some mail.now) pending.old.entries pending.new.entries replicas.old replicas.new) }
     ensures pending { OnErr result ((t : ℕ) → look_in pending.new.entries t ≡ look_in pending.old.entries t) }
     ensures memory { OnErr result (map server_in replicas.new ≡ map server_in replicas.old) }
-    ensures spared { OnErr result (states_in replicas.new ≡ states_in replicas.old) }
+    ensures spared { OnErr result (TakeSome (states_in replicas.old) (states_in replicas.new)) }
     ensures disks { KeepDisks replicas.old replicas.new }
 {
     match mail {

@@ -96,3 +96,43 @@ put_back f g done rest rest' back x y all made is stands same was before =
     ∙ (ap (λ l. map f done ++ map g l) stands
     ∙ (ap (λ z. map f done ++ z ∷ map g rest') same
     ∙ (ap (λ l. map f done ++ map g l) (sym was) ∙ before)))
+
+-- Elements of two lists that stand at the same place
+
+-- R holds of each pair of them
+abbrev pub Beside : {D : Type 0} → (D → D → Type 0) → List D → List D → Type 0
+Beside {D} R olds news = (j : ℕ) (x : D) → slice_get olds j ≡ Some x → (y : D) → slice_get news j ≡ Some y → R x y
+
+beside_itself : {D : Type 0} (R : D → D → Type 0) (xs : List D) → ((x : D) → R x x) → Beside R xs xs
+beside_itself R xs same j x at y at' =
+    let both : Some x ≡ Some y = sym at ∙ at' in
+    let one : x ≡ y = cc in
+    subst (R x) one (same x)
+
+-- the first of some were made others, the next one shows d now, and those behind it stayed
+pub each_beside : {A B D : Type 0} (R : D → D → Type 0) (f : B → D) (g : A → D) (all : List B) (done : List A) (rest : List B) (k : B) (d : D) → ((x : D) → R x x)
+    → ((j : ℕ) (n : A) → slice_get done j ≡ Some n → (b : B) → slice_get all j ≡ Some b → R (f b) (g n)) → k ∷ rest ≡ drop (length done) all → R (f k) d → Beside R (map f all) (map g done ++ d ∷ map f rest)
+each_beside R f g [] [] rest k d same h is r j x at y at' = absurd (cc)
+each_beside R f g [] (n ∷ ns) rest k d same h is r j x at y at' = absurd (cc)
+each_beside R f g (a ∷ bs) [] rest k d same h is r zero x at y at' =
+    let first : k ≡ a = cc in
+    let old : f a ≡ x = cc in
+    let new : d ≡ y = cc in
+    subst (λ z. R z y) (ap f first ∙ old) (subst (R (f k)) new r)
+each_beside R f g (a ∷ bs) [] rest k d same h is r (suc j) x at y at' =
+    let behind : rest ≡ bs = cc in
+    beside_itself R (map f bs) same j x at y (ap (λ l. slice_get (map f l) j) (sym behind) ∙ at')
+each_beside R f g (a ∷ bs) (n ∷ ns) rest k d same h is r zero x at y at' =
+    let old : f a ≡ x = cc in
+    let new : g n ≡ y = cc in
+    subst (λ z. R z y) old (subst (R (f a)) new (h zero n refl a refl))
+each_beside R f g (a ∷ bs) (n ∷ ns) rest k d same h is r (suc j) x at y at' = each_beside R f g bs ns rest k d same (λ i m e b e'. h (suc i) m e b e') is r j x at y at'
+
+get_map : {A B : Type 0} (f : A → B) (xs : List A) (j : ℕ) (x : A) → slice_get xs j ≡ Some x → slice_get (map f xs) j ≡ Some (f x)
+get_map f [] j x at = absurd (cc)
+get_map f (y ∷ ys) zero x at = let same : y ≡ x = cc in ap (λ z. Some (f z)) same
+get_map f (y ∷ ys) (suc j) x at = get_map f ys j x at
+
+-- so of the elements that show them
+pub beside_by : {B D : Type 0} (R : D → D → Type 0) (f : B → D) (olds news : List B) (shows : List D) → Beside R (map f olds) shows → map f news ≡ shows → (j : ℕ) (k : B) → slice_get olds j ≡ Some k → (k' : B) → slice_get news j ≡ Some k' → R (f k) (f k')
+beside_by R f olds news shows h is j k at k' at' = h j (f k) (get_map f olds j k at) (f k') (ap (λ l. slice_get l j) (sym is) ∙ get_map f news j k' at')

@@ -79,7 +79,7 @@ pub fn close_all<E: Layers, D: Disk, C: Chooser>(
 
     // Each disk is as its node's store had it, and so are its faults.
     ensures disks { map (λ k. D.view k.disk) parts.new.items ≡ map (λ n. n.replica.store.disk) nodes.items }
-    ensures faults { map (λ k. (D.view k.disk).faults) parts.new.items ≡ map (λ n. (shown n.replica.store n.replica.origin (E.waiting n.replica.engines) n.replica.told).faults) nodes.items }
+    ensures faults { map (λ k. (D.view k.disk).faults) parts.new.items ≡ map (λ n. (shown n.replica.store n.replica.origin (E.waiting n.replica.engines) n.replica.stops n.replica.reopenings).faults) nodes.items }
     ensures size { length parts.new.items ≡ length nodes.items }
 {
     close_before(nodes, parts);

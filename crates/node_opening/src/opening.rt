@@ -5,7 +5,7 @@ ghost use Rattle.std.specs.Vec.{vec_capacity};
 ghost use Rattle.local_replica.specs.Shown.{local_meaning, shown};
 ghost use Rattle.replica_api.specs.Fresh.{IsFreshReplica};
 ghost use Rattle.fitting_run.specs.Fresh.{IsFreshNode};
-ghost use Rattle.node_opening.specs.Opened.{IsCounted, IsArmedAs, AreFreshReplicas, AreArmedAs};
+ghost use Rattle.node_opening.specs.Opened.{IsCounted, IsArmedAs, IsLeftOf, AreFreshReplicas, AreArmedAs, AreLeftOf};
 
 use crate::closing::{close_before, put_first};
 use crate::parts::NodeParts;
@@ -26,12 +26,14 @@ fn open_node<E: Layers, D: Disk, C: Chooser>(
     one: NodeParts<E, D, C>,
 ) -> Result<OpenNode<LocalReplica<E, D>, C>, NodeParts<E, D, C>>
     requires { IsFreshNode (E.kinds one.engines) (E.waiting one.engines) (D.view one.disk) }
-    ensures fresh { IfOk result (λ n. IsFreshReplica local_meaning number (shown n.replica.store n.replica.origin (E.waiting n.replica.engines) n.replica.told)) }
-    ensures counted { IfOk result (λ n. IsCounted (shown n.replica.store n.replica.origin (E.waiting n.replica.engines) n.replica.told)) }
-    ensures armed { IfOk result (λ n. IsArmedAs (D.view one.disk) (shown n.replica.store n.replica.origin (E.waiting n.replica.engines) n.replica.told)) }
+    ensures fresh { IfOk result (λ n. IsFreshReplica local_meaning number (shown n.replica.store n.replica.origin (E.waiting n.replica.engines) n.replica.stops n.replica.reopenings)) }
+    ensures counted { IfOk result (λ n. IsCounted (shown n.replica.store n.replica.origin (E.waiting n.replica.engines) n.replica.stops n.replica.reopenings)) }
+    ensures armed { IfOk result (λ n. IsArmedAs (D.view one.disk) (shown n.replica.store n.replica.origin (E.waiting n.replica.engines) n.replica.stops n.replica.reopenings)) }
+    ensures left { IfOk result (λ n. IsLeftOf (D.view one.disk) n.replica.store.disk) }
     ensures engines { IfOk result (λ n. n.replica.engines ≡ one.engines) }
     ensures chooser { IfOk result (λ n. n.chooser ≡ one.chooser) }
     ensures back { IfErr result (λ k. (k.engines ≡ one.engines) × (k.chooser ≡ one.chooser)) }
+    ensures left_back { IfErr result (λ k. IsLeftOf (D.view one.disk) (D.view k.disk)) }
 {
     let NodeParts {
         engines,
@@ -65,13 +67,15 @@ pub fn open_all<E: Layers, D: Disk, C: Chooser>(
 ) -> Result<Vec<OpenNode<LocalReplica<E, D>, C>>, AllocError>
     requires eight { length parts.old.items ≤ 8 }
     requires fresh { AllByRecursion (λ k. IsFreshNode (E.kinds k.engines) (E.waiting k.engines) (D.view k.disk)) parts.old.items }
-    ensures fresh { IfOk result (λ nodes. AreFreshReplicas (λ n. shown n.replica.store n.replica.origin (E.waiting n.replica.engines) n.replica.told) nodes.items) }
+    ensures fresh { IfOk result (λ nodes. AreFreshReplicas (λ n. shown n.replica.store n.replica.origin (E.waiting n.replica.engines) n.replica.stops n.replica.reopenings) nodes.items) }
 
-    // A node is down just where its disk failed, and that was counted.
-    ensures counted { IfOk result (λ nodes. AllByRecursion (λ n. IsCounted (shown n.replica.store n.replica.origin (E.waiting n.replica.engines) n.replica.told)) nodes.items) }
+    // A node is down just where its disk failed, and that was counted once.
+    ensures counted { IfOk result (λ nodes. AllByRecursion (λ n. IsCounted (shown n.replica.store n.replica.origin (E.waiting n.replica.engines) n.replica.stops n.replica.reopenings)) nodes.items) }
 
-    // Opening arms no disk: that of a node that is up is armed just where it was before.
-    ensures armed { IfOk result (λ nodes. AreArmedAs (λ n. shown n.replica.store n.replica.origin (E.waiting n.replica.engines) n.replica.told) (λ k. D.view k.disk) nodes.items parts.old.items) }
+    // Opening arms no disk, and reopens none: that of a node that is up is armed where it was before, by a count of which at
+    // most four were taken.
+    ensures armed { IfOk result (λ nodes. AreArmedAs (λ n. shown n.replica.store n.replica.origin (E.waiting n.replica.engines) n.replica.stops n.replica.reopenings) (λ k. D.view k.disk) nodes.items parts.old.items) }
+    ensures left { IfOk result (λ nodes. AreLeftOf (λ n. n.replica.store.disk) (λ k. D.view k.disk) nodes.items parts.old.items) }
     ensures engines { IfOk result (λ nodes. map (λ n. n.replica.engines) nodes.items ≡ map (λ k. k.engines) parts.old.items) }
     ensures choosers { IfOk result (λ nodes. map (λ n. n.chooser) nodes.items ≡ map (λ k. k.chooser) parts.old.items) }
     ensures size { IfOk result (λ nodes. length nodes.items ≡ length parts.old.items) }
@@ -80,6 +84,7 @@ pub fn open_all<E: Layers, D: Disk, C: Chooser>(
     // Nothing is lost, and there is room to put all parts back.
     ensures engines_back { OnErr result (map (λ k. k.engines) parts.new.items ≡ map (λ k. k.engines) parts.old.items) }
     ensures choosers_back { OnErr result (map (λ k. k.chooser) parts.new.items ≡ map (λ k. k.chooser) parts.old.items) }
+    ensures left_back { OnErr result (AreLeftOf (λ k. D.view k.disk) (λ k. D.view k.disk) parts.new.items parts.old.items) }
     ensures size_back { OnErr result (length parts.new.items ≡ length parts.old.items) }
     ensures room { length parts.old.items ≤ vec_capacity parts.new }
 {

@@ -1,5 +1,5 @@
 -- What the calls of a register do.
-use Rattle.std.specs.Prelude.{◌≡◌, ◌≢◌, ◌⊎◌, ℕ, ◌+◌, ◌-◌, ◌^◌, ◌<◌, ◌≤◌, Bool, true, false, if◌then◌else◌, Option, Some, None, Result, Ok, Err}
+use Rattle.std.specs.Prelude.{◌≡◌, ◌≢◌, ◌⊎◌, ℕ, ◌+◌, ◌-◌, ◌≤◌, nat_lt, Bool, true, false, if◌then◌else◌, Option, Some, None, Result, Ok, Err}
 use Rattle.std.specs.declared.alloc.AllocError.{AllocError}
 use Rattle.delos_types.specs.declared.chain.Chain.{Chain}
 use Rattle.register_api.specs.declared.answer.ReadAnswer.{ReadAnswer}
@@ -8,9 +8,20 @@ use Rattle.register_api.specs.declared.answer.WriteAnswer.{WriteAnswer}
 use Rattle.register_api.specs.declared.answer.WriteAnswer.TheVariants as write
 use Rattle.register_api.specs.View.{RegisterView, bumped}
 
--- a fault came: the count rose, or stands at its end
-abbrev pub Rose : ℕ → ℕ → Type 0
-Rose before now = (before < now) ⊎ ((before ≡ 2 ^ 64 - 1) × (now ≡ before))
+-- The two writes of a record were taken of the count of an armed disk, with at most four more where it was compacted, and
+-- not the last: it is armed where it was.
+pub record TakesRecord (old new : ℕ) : Type 0 where
+  pub first : old ≢ 1
+  pub second : old ≢ 2
+  pub taken : new ≤ old - 2
+  pub at_most : old ≤ new + 6
+  pub still : nat_lt 0 new ≡ nat_lt 0 old
+
+-- at most one was, and not the last
+pub record TakesOne (old new : ℕ) : Type 0 where
+  pub fewer : new ≤ old
+  pub at_most : old ≤ new + 1
+  pub still : nat_lt 0 new ≡ nat_lt 0 old
 
 -- the register tells what stands
 abbrev pub gives : RegisterView → RegisterView
@@ -40,31 +51,37 @@ pub record Replaces (old : RegisterView) (expected : ℕ) (chain : Chain) (versi
   pub up : old.down ≡ false
   pub expected_is : expected ≡ old.version
   pub version_is : version ≡ old.version + 1
-  pub stands : new ≡ replaced old chain
+  pub stands : new ≡ record (replaced old chain) { armed = new.armed }
+  pub writes : TakesRecord old.armed new.armed
 
 -- it failed in the write, and is down
 pub record Fails (old : RegisterView) (expected : ℕ) (chain : Chain) (new : RegisterView) : Type 0 where
   pub up : old.down ≡ false
   pub expected_is : expected ≡ old.version
-  pub rose : Rose old.faults new.faults
-  pub torn : new ≡ record old { asked = Some chain; down = true; armed = false; faults = new.faults }
+  pub torn : new ≡ record old { asked = Some chain; stands = new.stands; down = true; armed = 0; faults = bumped old.faults }
 
 abbrev pub Writes : RegisterView → ℕ → Chain → Result WriteAnswer AllocError → RegisterView → Type 0
 Writes old expected chain (Ok (write.Written version)) new = Replaces old expected chain version new
 Writes old expected chain (Ok (write.Conflict version standing)) new = GivesNow old version standing new × (expected ≢ old.version)
 Writes old expected chain (Ok write.MetaFault) new = Fails old expected chain new
 Writes old expected chain (Ok write.Down) new = IsDown old new
-Writes old expected chain (Err e) new = new ≡ old
+Writes old expected chain (Err e) new = TakesOne old.armed new.armed × (new ≡ record old { armed = new.armed })
 
--- it is up again, with the write in which it failed or without
+-- it is up again, with the write in which it failed or without: with it where its record stands
 abbrev pub reopened : RegisterView → Bool → Option Chain → RegisterView
-reopened v kept None = record v { asked = None; down = false }
+reopened v kept None = record v { asked = None; stands = false; down = false }
 reopened v kept (Some chain) =
-    let whole = record v { asked = None; down = false } in
+    let whole = record v { asked = None; stands = false; down = false } in
     if kept then record whole { version = v.version + 1; chain = chain } else whole
 
--- Where it is up nothing is done. It fails only where a fault came.
+-- the disk of one that was down was reopened by this word, or refused
+abbrev pub Tries : RegisterView → ℕ → RegisterView → Type 0
+Tries old word new = (old.down ≡ true) × ((new.word ≡ word) ⊎ (new.word ≡ old.word))
+
+-- Where it is up nothing is done. Else its disk is reopened by the word, or failed, which counts one fault and one miss.
+-- Without memory it stays down, though its disk may have been reopened.
 abbrev pub Reopens : RegisterView → ℕ → Result Bool AllocError → RegisterView → Type 0
-Reopens old word (Ok true) new = (old.down ≡ false → new ≡ record old { told = word }) × ((kept : Bool) × (new ≡ record (reopened old kept old.asked) { told = word }))
-Reopens old word (Ok false) new = (old.down ≡ true) × Rose old.faults new.faults × (new ≡ record old { faults = new.faults; misses = bumped old.misses; told = word })
-Reopens old word (Err e) new = new ≡ old
+Reopens old word (Ok true) new = (old.down ≡ false → new ≡ record old { reopenings = bumped old.reopenings })
+    × (old.down ≡ true → (kept : Bool) × (old.stands ≡ true → kept ≡ true) × (new ≡ record (reopened old kept old.asked) { word = word; reopenings = bumped old.reopenings }))
+Reopens old word (Ok false) new = Tries old word new × (new ≡ record old { faults = bumped old.faults; misses = bumped old.misses; word = new.word; reopenings = bumped old.reopenings })
+Reopens old word (Err e) new = (new ≡ old) ⊎ (Tries old word new × (new ≡ record old { word = new.word }))

@@ -29,12 +29,12 @@ pub trait Register: Drop {
         ensures { Writes (view self.old) expected chain.now result (view self.new) };
 
     /// Arms the register, where it is up: its `after`-th change of a disk from now on stops inside itself; 0 takes that
-    /// back.
+    /// back. Where it is down the stop is counted, and nothing else.
     fn stop(&mut self, after: u64)
         ensures { view self.new ≡ armed_by (view self.old) after };
 
-    /// Brings it up, with the write in which it failed or without. False only where a fault came. Where it is up, nothing
-    /// is done.
+    /// Brings it up, with the write in which it failed or without, by an image of its disk that the word may pick. False
+    /// where the disk failed, once. Where it is up, nothing is done.
     fn reopen(&mut self, word: u64) -> Result<bool, AllocError>
         ensures { Reopens (view self.old) word result (view self.new) };
 

@@ -1,11 +1,12 @@
 -- A replica: the space that a log's entries led to, the cursor, and the store on a disk that keeps both.
-use Rattle.std.specs.Prelude.{◌≡◌, ◌≢◌, ℕ, ◌+◌, ◌≤◌, ◌⊎◌, ◌&&◌, not, nat_lt, Bool, true, false, List, [], ◌∷◌, ◌++◌, length, Option, Some, None}
+use Rattle.std.specs.Prelude.{◌≡◌, ◌≢◌, ℕ, ◌+◌, ◌≤◌, ◌⊎◌, nat_lt, if◌then◌else◌, Bool, true, false, List, [], ◌∷◌, ◌++◌, length, Option, Some, None}
 use Rattle.delos_types.specs.Spaces.{SpaceMap}
 use Rattle.delos_types.specs.declared.entry.Entry.{Entry}
 use Rattle.delos_types.specs.Spelling.{IsSpellable}
 use Rattle.engine_api.specs.Packing.{packed}
 use Rattle.delos_types.specs.declared.item.Item.{Item}
-use Rattle.disk_model.specs.Disk.{Timeline, Rose}
+use Rattle.disk_model.specs.Disk.{Timeline, Rose, bumped}
+use Rattle.disk_model.specs.Armed.{Spends, TakesRecord}
 use Rattle.disk_model.specs.Crash.{Leaves}
 use Rattle.replica_api.specs.declared.replica.Applied.{Applied}
 use Rattle.replica_api.specs.declared.replica.Applied.TheVariants as applied
@@ -23,24 +24,29 @@ pub record Meaning : Type 1 where
   pub state : List Entry → SpaceMap → Type 0
   pub spells : List ℕ → Saved → Type 0
 
--- what it shows; what the disk failed to keep, and a crash may have kept; whether it is down; its disk and the counted
--- faults; the node of its entries; the items that wait to be packed; whether the disk is armed, which it isn't while the
--- replica is down; and the count or word that the last stop or reopening was given
+-- what it shows; what the disk failed to keep, and a crash may have kept; whether the record of that stands, so that a
+-- reopening finds it; whether it is down; its disk and the counted faults; the node of its entries; the items that wait to
+-- be packed; which of the next writes of its disk stops inside itself, counted from 1 (0 for none, and while the replica is
+-- down); the word by which its disk was reopened last; and how many stops and reopenings were asked for
 pub record ReplicaView : Type 0 where
   pub cursor : ℕ
   pub contents : SpaceMap
   pub asked : Option Saved
+  pub stands : Bool
   pub down : Bool
   pub disk : Timeline
   pub faults : ℕ
   pub origin : ℕ
   pub kept : List Item
-  pub armed : Bool
-  pub told : ℕ
+  pub armed : ℕ
+  pub word : ℕ
+  pub stops : ℕ
+  pub reopenings : ℕ
 
--- its write of this number from now on is to stop inside itself; 0 takes that back
+-- its write of this number from now on is to stop inside itself, and 0 takes that back; a stop of one that is down is counted
+-- alone
 abbrev pub armed_by : ReplicaView → ℕ → ReplicaView
-armed_by v after = record v { armed = not v.down && nat_lt 0 after; told = after }
+armed_by v after = record v { armed = if v.down then 0 else after; stops = bumped v.stops }
 
 abbrev pub saved_in : ReplicaView → Saved
 saved_in v = record { cursor = v.cursor; contents = v.contents }
@@ -67,19 +73,22 @@ pub record Advanced (state : List Entry → SpaceMap → Type 0) (old : ReplicaV
   pub led : Advances state old.contents old.cursor e new.contents
   pub cursor : new.cursor ≡ old.cursor + 1
   pub none_asked : new.asked ≡ None
+  pub settled : new.stands ≡ false
   pub up : new.down ≡ false
   pub faults : new.faults ≡ old.faults
   pub origin : new.origin ≡ old.origin
   pub kept : new.kept ≡ old.kept
-  pub armed : new.armed ≡ old.armed
-  pub told : new.told ≡ old.told
+  pub armed : TakesRecord 4 old.armed new.armed
+  pub word : new.word ≡ old.word
+  pub stops : new.stops ≡ old.stops
+  pub reopenings : new.reopenings ≡ old.reopenings
 
 -- the disk failed: the replica is down, and shows what it showed
 pub record Failed (state : List Entry → SpaceMap → Type 0) (old : ReplicaView) (e : Entry) (new : ReplicaView) : Type 0 where
+  pub was_up : old.down ≡ false
   pub next : SpaceMap
   pub led : Advances state old.contents old.cursor e next
-  pub is : new ≡ record old { asked = Some (record { cursor = old.cursor + 1; contents = next }); down = true; armed = false; disk = new.disk; faults = new.faults }
-  pub rose : Rose old.faults new.faults
+  pub is : new ≡ record old { asked = Some (record { cursor = old.cursor + 1; contents = next }); stands = new.stands; down = true; armed = 0; disk = new.disk; faults = bumped old.faults }
   pub counts : old.faults ≤ new.faults
 
 -- an entry comes up at the cursor
@@ -87,40 +96,48 @@ abbrev pub Takes : (List Entry → SpaceMap → Type 0) → ReplicaView → Entr
 Takes state old e applied.Done new = Advanced state old e new
 Takes state old e applied.DiskFault new = Failed state old e new
 Takes state old e applied.Down new = (old.down ≡ true) × (new ≡ old)
-Takes state old e applied.Memory new = new ≡ record old { disk = new.disk }
+Takes state old e applied.Memory new = Spends 1 old.armed new.armed × (new ≡ record old { disk = new.disk; armed = new.armed })
 
 -- a crash inside it leaves what one before it may leave, or what the entry leads to
 abbrev pub MayFindDuring : (List Entry → SpaceMap → Type 0) → ReplicaView → Entry → Saved → Type 0
 MayFindDuring state v e s = MayFind v s ⊎ ((s.cursor ≡ v.cursor + 1) × Advances state v.contents v.cursor e s.contents)
 
--- The replica is up, with one of the pairs that a reopening may find, and no fault came. Where it was up nothing is done.
+-- The replica is up, with one of the pairs that a reopening may find, and no fault came. Where it was down its disk was
+-- reopened by the word; where it was up nothing is done.
 pub record Recovered (word : ℕ) (old new : ReplicaView) : Type 0 where
   pub found : MayFind old (saved_in new)
+  pub standing : old.stands ≡ true → old.asked ≡ Some (saved_in new)
+  pub settled : new.stands ≡ false
   pub none_asked : new.asked ≡ None
   pub up : new.down ≡ false
   pub faults : new.faults ≡ old.faults
   pub origin : new.origin ≡ old.origin
   pub kept : new.kept ≡ old.kept
   pub armed : new.armed ≡ old.armed
-  pub told : new.told ≡ word
-  pub idle : old.down ≡ false → new ≡ record old { told = word }
+  pub word_is : old.down ≡ true → new.word ≡ word
+  pub stops : new.stops ≡ old.stops
+  pub reopenings : new.reopenings ≡ bumped old.reopenings
+  pub idle : old.down ≡ false → new ≡ record old { reopenings = bumped old.reopenings }
+
+-- the disk was reopened by this word, or refused
+abbrev pub Tries : ℕ → ReplicaView → ReplicaView → Type 0
+Tries word old new = (old.down ≡ true) × ((new.word ≡ word) ⊎ (new.word ≡ old.word))
 
 -- it is down still, and its disk failed again
 pub record StaysDown (word : ℕ) (old new : ReplicaView) : Type 0 where
-  pub was : old.down ≡ true
-  pub is : new ≡ record old { disk = new.disk; faults = new.faults; told = word }
+  pub tries : Tries word old new
+  pub is : new ≡ record old { disk = new.disk; faults = bumped old.faults; word = new.word; reopenings = bumped old.reopenings }
   pub counts : old.faults ≤ new.faults
-  pub rose : Rose old.faults new.faults
 
--- without memory it shows what it showed, but for the disk's bytes
+-- without memory it shows what it showed, but for the disk's bytes, and its word where it was reopened
 abbrev pub Reopens : ReplicaView → ℕ → Reopened → ReplicaView → Type 0
 Reopens old word reopened.Done new = Recovered word old new
 Reopens old word reopened.DiskFault new = StaysDown word old new
-Reopens old word reopened.Memory new = new ≡ record old { disk = new.disk }
+Reopens old word reopened.Memory new = (new ≡ record old { disk = new.disk }) ⊎ (Tries word old new × (new ≡ record old { disk = new.disk; word = new.word }))
 
--- No call but a stop arms or disarms it: the disk is armed as it was, or failed, and the replica is down.
+-- Its disk is armed where it was, by a count that only fell, or failed, and the replica is down.
 abbrev pub ArmedAsBefore : ReplicaView → ReplicaView → Type 0
-ArmedAsBefore old new = (new.armed ≡ old.armed) ⊎ ((new.armed ≡ false) × Rose old.faults new.faults)
+ArmedAsBefore old new = ((new.armed ≤ old.armed) × (nat_lt 0 new.armed ≡ nat_lt 0 old.armed)) ⊎ ((new.armed ≡ 0) × Rose old.faults new.faults)
 
 -- The way down
 

@@ -55,7 +55,8 @@ pub trait Replica {
         ensures survives { Survives meaning.spells (shows self.new) }
         ensures any_crash { AnyCrash (shows self.old).disk (shows self.new).disk (SpellsOne meaning.spells (MayFindDuring meaning.state (shows self.old) entry.now)) };
 
-    /// Opens the store again, where it is down. The word chooses what the disk kept.
+    /// Opens the store again, where it is down: its disk is reopened by the word, which chooses what it kept and is shown from
+    /// then on. It is counted, also where the store is up and nothing is done, but not where it answers `Memory`.
     fn reopen(&mut self, word: u64) -> Reopened
         ensures reopens { Reopens (shows self.old) word result (shows self.new) }
         ensures survives { Survives meaning.spells (shows self.new) }
@@ -75,7 +76,7 @@ pub trait Replica {
         ensures err { OnErr result (shows self.new ≡ shows self.old) };
 
     /// Arms the disk, where the store is up: its write number `after` from now on stops inside itself, as in a crash; 0
-    /// takes that back.
+    /// takes that back. It is counted in any case.
     fn stop(&mut self, after: u64)
         ensures { shows self.new ≡ armed_by (shows self.old) after };
 

@@ -30,6 +30,7 @@ use Rattle.loglet_api.specs.declared.loglet.Loglet
 use Rattle.loglet_api.proofs.call.Answer.TheSendSync as answers
 use Rattle.native_loglet.proofs.loglet.NativeLoglet.TheSendSync as natives
 use Rattle.native_loglet.specs.contracts.loglet.NativeLoglet
+use Rattle.striped_loglet.proofs.given.Given.TheSendSync as givens
 use Rattle.striped_loglet.proofs.marks.Marks.TheSendSync as marks
 use Rattle.striped_loglet.proofs.plan.Asked.TheSendSync as asked
 use Rattle.striped_loglet.proofs.plan.Plan.TheSendSync as plans
@@ -56,7 +57,7 @@ striped_send T g s = view_send (TheInside.the_row T g) _ _ _ _ (recorded_send (T
             maps.the_send Builtin.u64 (Pending.the_row T) (BuildHasherDefault.the_row FoldHasher.the_row) Global.the_row FoldHasher.the_row equality.ghosts hashing.ghosts
                 (building.ghosts FoldHasher.the_row folding.ghosts building.no_dict (copies.ghosts FoldHasher.the_row) building.no_dict) folding.ghosts allocs.ghosts
                 (plain_send _ _ _ _ _) (pending_send T) (builds.the_send FoldHasher.the_row folds.the_send) global.the_send heap.the_frees,
-            (plain_send _ _ _ _ _, tt),
+            (givens.the_field_send, tt),
           ),
         ),
       ),

@@ -1,7 +1,7 @@
 //! The loglet of a kind.
 ghost use Rattle.std.specs.Prelude.{◌≡◌, IfOk};
 ghost use Rattle.loglet_api.specs.View.{IsFresh};
-ghost use Rattle.shelf_loglets.specs.Shelf.{AreRooms, view_of, serving_in, kind_for, room_for};
+ghost use Rattle.shelf_loglets.specs.Shelf.{AreRooms, IsNew, view_of, serving_in, kind_for, room_for, servers_for};
 
 use crate::striped::{Native, nested, striped};
 use delos_types::numbers::Ticket;
@@ -119,6 +119,7 @@ pub fn loglet_of(alloc: Global, kind: Kind, rooms: Rooms) -> Result<ShelfLoglet,
     ensures fresh { IfOk result (λ made. IsFresh (view_of made)) }
     ensures kind { IfOk result (λ made. (view_of made).kind ≡ kind_for kind) }
     ensures room { IfOk result (λ made. (view_of made).room ≡ room_for rooms kind) }
+    ensures new { IfOk result (λ made. IsNew (servers_for kind) made) }
 {
     let Rooms { single, inner } = rooms;
     Ok(match kind {

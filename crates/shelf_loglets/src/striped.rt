@@ -2,7 +2,9 @@
 ghost use Rattle.std.specs.Prelude.{◌≡◌, ◌+◌, ◌*◌, ◌≤◌, ◌^◌, All, IfOk, length, map};
 ghost use Rattle.loglet_api.specs.View.{IsFresh};
 ghost use Rattle.loglet_api.specs.declared.call.Kind.TheVariants as kinds;
-ghost use Rattle.shelf_loglets.specs.Stripes.{IsStripe};
+ghost use Rattle.native_loglet.specs.Natives.{serving_of as native_serving};
+ghost use Rattle.striped_loglet.specs.Striped.{serving_of};
+ghost use Rattle.shelf_loglets.specs.Stripes.{IsStripe, new_servers};
 
 use disk_model::MemDisk;
 use loglet_api::loglet::Loglet;
@@ -26,6 +28,7 @@ pub fn striped(alloc: Global, count: usize, room: u64) -> Result<StripedLoglet<N
     ensures room { IfOk result (λ made. made.loglet.room ≡ count * room) }
     ensures count { IfOk result (λ made. length made.stripes ≡ count) }
     ensures stripes { IfOk result (λ made. All (IsStripe (kinds.Native 3) 3 7 room) made.stripes) }
+    ensures serving { IfOk result (λ made. serving_of made ≡ new_servers (3 * count)) }
 {
     let stripes = natives(alloc, count, room)?;
     Ok(StripedLoglet::new(alloc, stripes))
@@ -41,6 +44,7 @@ pub fn nested(alloc: Global, room: u64) -> Result<StripedLoglet<StripedLoglet<Na
     ensures room { IfOk result (λ made. made.loglet.room ≡ 4 * room) }
     ensures count { IfOk result (λ made. length made.stripes ≡ 2) }
     ensures stripes { IfOk result (λ made. All (IsStripe (kinds.Striped 2) 6 63 (2 * room)) made.stripes) }
+    ensures serving { IfOk result (λ made. serving_of made ≡ new_servers 12) }
 {
     let stripes = pairs(alloc, 2, room)?;
     Ok(StripedLoglet::new(alloc, stripes))
@@ -51,6 +55,7 @@ fn natives(alloc: Global, count: usize, room: u64) -> Result<Vec<Native>, AllocE
     requires room { (1 ≤ room) × (room ≤ 2 ^ 32) }
     ensures count { IfOk result (λ made. length made.items ≡ count) }
     ensures stripes { IfOk result (λ made. All (λ v. IsStripe (kinds.Native 3) 3 7 room v.loglet) made.items) }
+    ensures servings { IfOk result (λ made. All (λ v. native_serving v ≡ new_servers 3) made.items) }
 {
     let mut natives = Vec::with_capacity(alloc, count)?;
     for _index in 0..count {
@@ -64,6 +69,7 @@ fn pairs(alloc: Global, count: usize, room: u64) -> Result<Vec<StripedLoglet<Nat
     requires room { (1 ≤ room) × (2 * room ≤ 2 ^ 32) }
     ensures count { IfOk result (λ made. length made.items ≡ count) }
     ensures stripes { IfOk result (λ made. All (λ v. IsStripe (kinds.Striped 2) 6 63 (2 * room) v.loglet) made.items) }
+    ensures servings { IfOk result (λ made. All (λ v. serving_of v ≡ new_servers 6) made.items) }
 {
     let mut pairs = Vec::with_capacity(alloc, count)?;
     for _index in 0..count {
@@ -75,7 +81,8 @@ fn pairs(alloc: Global, count: usize, room: u64) -> Result<Vec<StripedLoglet<Nat
 /// An empty native loglet of three log servers.
 fn native(alloc: Global, room: u64) -> Result<Native, AllocError>
     requires room { (1 ≤ room) × (room ≤ 2 ^ 32) }
-    ensures { IfOk result (λ made. IsStripe (kinds.Native 3) 3 7 room made.loglet) }
+    ensures stripe { IfOk result (λ made. IsStripe (kinds.Native 3) 3 7 room made.loglet) }
+    ensures serving { IfOk result (λ made. native_serving made ≡ new_servers 3) }
 {
     let native = in_memory(alloc, 3, room)?;
     // What holds of every loglet is known of one that was asked for its servers.
@@ -86,7 +93,8 @@ fn native(alloc: Global, room: u64) -> Result<Native, AllocError>
 /// An empty striped loglet of two stripes.
 fn pair(alloc: Global, room: u64) -> Result<StripedLoglet<Native>, AllocError>
     requires room { (1 ≤ room) × (2 * room ≤ 2 ^ 32) }
-    ensures { IfOk result (λ made. IsStripe (kinds.Striped 2) 6 63 (2 * room) made.loglet) }
+    ensures stripe { IfOk result (λ made. IsStripe (kinds.Striped 2) 6 63 (2 * room) made.loglet) }
+    ensures serving { IfOk result (λ made. serving_of made ≡ new_servers 6) }
 {
     let pair = striped(alloc, 2, room)?;
     let _servers = pair.servers();

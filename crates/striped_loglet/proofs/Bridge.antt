@@ -12,6 +12,7 @@ use Rattle.loglet_api.specs.View.{LogletView, Operation, operation_at, IsOpen}
 use Rattle.loglet_api.specs.Sound.{IsSound}
 use Rattle.loglet_api.specs.Servers.{ServersView}
 use Rattle.loglet_api.specs.Step.{LogletStep, Does, CanCall, IsUndecidedAt, HasLeft}
+use Rattle.striped_loglet.specs.declared.given.Given.{Given}
 use Rattle.striped_loglet.specs.declared.marks.Marks.{Marks}
 use Rattle.striped_loglet.specs.declared.shape.Shape.{Shape}
 use Rattle.striped_loglet.specs.declared.plan.Plan.{Plan}
@@ -41,10 +42,10 @@ module _ {L : Type 0} (view : L → LogletView) where
   at_by m t p e = ap (λ x. option_map (plain_of view) x) e
 
   -- the loglet's view
-  pub shows : (serving : L → ServersView) {told : ℕ} (shape : Shape) (xs : List L) (marks : Marks) (m : PendingMap L) (w : StripedView) → striped_view view serving shape xs marks m told ≡ w → loglet_of (state_of view shape xs marks m) ≡ w.loglet
+  pub shows : (serving : L → ServersView) {given : Given} (shape : Shape) (xs : List L) (marks : Marks) (m : PendingMap L) (w : StripedView) → striped_view view serving shape xs marks m given ≡ w → loglet_of (state_of view shape xs marks m) ≡ w.loglet
   shows serving shape xs marks m w e = ap (λ (v : StripedView). v.loglet) e
 
-  pub sound_whole : (serving : L → ServersView) {told : ℕ} (shape : Shape) (xs : List L) (marks : Marks) (m : PendingMap L) (w : StripedView) → striped_view view serving shape xs marks m told ≡ w → IsStriped (state_of view shape xs marks m) → IsSound w.loglet
+  pub sound_whole : (serving : L → ServersView) {given : Given} (shape : Shape) (xs : List L) (marks : Marks) (m : PendingMap L) (w : StripedView) → striped_view view serving shape xs marks m given ≡ w → IsStriped (state_of view shape xs marks m) → IsSound w.loglet
   sound_whole serving shape xs marks m w e h = subst IsSound (shows serving shape xs marks m w e) (striped_sound (state_of view shape xs marks m) h)
 
   some_map : (turn count : ℕ) (x : Option (Pending L)) → is_some (option_map (operation_of turn count) (option_map (plain_of view) x)) ≡ true → is_some x ≡ true
@@ -52,13 +53,13 @@ module _ {L : Type 0} (view : L → LogletView) where
   some_map turn count (Some p) h = refl
 
   -- an open ticket is there
-  pub open_there : (serving : L → ServersView) {told : ℕ} (shape : Shape) (xs : List L) (marks : Marks) (m : PendingMap L) (w : StripedView) (t : ℕ) → striped_view view serving shape xs marks m told ≡ w → IsStriped (state_of view shape xs marks m) → IsOpen w.loglet t → is_some (get nat_eq m t) ≡ true
+  pub open_there : (serving : L → ServersView) {given : Given} (shape : Shape) (xs : List L) (marks : Marks) (m : PendingMap L) (w : StripedView) (t : ℕ) → striped_view view serving shape xs marks m given ≡ w → IsStriped (state_of view shape xs marks m) → IsOpen w.loglet t → is_some (get nat_eq m t) ≡ true
   open_there serving shape xs marks m w t e h open' =
       let s = state_of view shape xs marks m in
       let o : IsOpen (loglet_of s) t = subst (λ (v : LogletView). IsOpen v t) (sym (shows serving shape xs marks m w e)) open' in
       some_map shape.turn (count_of s) (get nat_eq m t) (ap is_some (sym (shown_is s h t)) ∙ o)
 
-  pub undecided_there : (serving : L → ServersView) {told : ℕ} (shape : Shape) (xs : List L) (marks : Marks) (m : PendingMap L) (w : StripedView) (t : ℕ) → striped_view view serving shape xs marks m told ≡ w → IsStriped (state_of view shape xs marks m) → IsUndecidedAt w.loglet t → is_some (get nat_eq m t) ≡ true
+  pub undecided_there : (serving : L → ServersView) {given : Given} (shape : Shape) (xs : List L) (marks : Marks) (m : PendingMap L) (w : StripedView) (t : ℕ) → striped_view view serving shape xs marks m given ≡ w → IsStriped (state_of view shape xs marks m) → IsUndecidedAt w.loglet t → is_some (get nat_eq m t) ≡ true
   undecided_there serving shape xs marks m w t e h u = open_there serving shape xs marks m w t e h (ap is_some u.is)
 
   waits : (turn count : ℕ) (plan : Plan) (x : Option Inner) (a : Option Answer) → 0 < (left_of turn count plan x a).0 + (left_of turn count plan x a).1 → a ≡ None
@@ -69,7 +70,7 @@ module _ {L : Type 0} (view : L → LogletView) where
   some_op a c e = cc
 
   -- an undecided operation has no answer
-  pub undecided_none : (serving : L → ServersView) {told : ℕ} (shape : Shape) (xs : List L) (marks : Marks) (m : PendingMap L) (w : StripedView) (t : ℕ) (p : Pending L) → striped_view view serving shape xs marks m told ≡ w → IsStriped (state_of view shape xs marks m) → IsUndecidedAt w.loglet t → get nat_eq m t ≡ Some p → p.answer ≡ None
+  pub undecided_none : (serving : L → ServersView) {given : Given} (shape : Shape) (xs : List L) (marks : Marks) (m : PendingMap L) (w : StripedView) (t : ℕ) (p : Pending L) → striped_view view serving shape xs marks m given ≡ w → IsStriped (state_of view shape xs marks m) → IsUndecidedAt w.loglet t → get nat_eq m t ≡ Some p → p.answer ≡ None
   undecided_none serving shape xs marks m w t p e h u is =
       let s = state_of view shape xs marks m in
       let u' : IsUndecidedAt (loglet_of s) t = subst (λ (v : LogletView). IsUndecidedAt v t) (sym (shows serving shape xs marks m w e)) u in
@@ -87,7 +88,7 @@ module _ {L : Type 0} (view : L → LogletView) where
         undecided = left_some s t (plain_of view p) h (h.pending t (plain_of view p) (at_by m t p is)) p.inner refl none;
       }
 
-  pub left_whole : (serving : L → ServersView) {told : ℕ} (shape : Shape) (xs : List L) (marks : Marks) (m : PendingMap L) (w : StripedView) (t : ℕ) (p : Pending L) (a b count : ℕ) → striped_view view serving shape xs marks m told ≡ w → IsStriped (state_of view shape xs marks m) → get nat_eq m t ≡ Some p → count ≡ length xs → (a, b) ≡ left_of shape.turn count p.plan p.inner p.answer → HasLeft w.loglet t a b
+  pub left_whole : (serving : L → ServersView) {given : Given} (shape : Shape) (xs : List L) (marks : Marks) (m : PendingMap L) (w : StripedView) (t : ℕ) (p : Pending L) (a b count : ℕ) → striped_view view serving shape xs marks m given ≡ w → IsStriped (state_of view shape xs marks m) → get nat_eq m t ≡ Some p → count ≡ length xs → (a, b) ≡ left_of shape.turn count p.plan p.inner p.answer → HasLeft w.loglet t a b
   left_whole serving shape xs marks m w t p a b count e h is ec left =
       let s = state_of view shape xs marks m in
       let c : count ≡ count_of s = ec ∙ sym (length_view view xs) in
@@ -97,7 +98,7 @@ module _ {L : Type 0} (view : L → LogletView) where
         left = sym (left ∙ ap (λ k. left_of shape.turn k p.plan p.inner p.answer) c);
       })
 
-  pub step_whole : (serving : L → ServersView) {told : ℕ} (shape : Shape) (xs ys : List L) (marks marks' : Marks) (m n : PendingMap L) (w : StripedView) (call : LogletCall) (answer : LogletAnswer) → striped_view view serving shape xs marks m told ≡ w → IsStriped (state_of view shape xs marks m) → IsStriped (state_of view shape ys marks' n) → CanCall w.loglet call
+  pub step_whole : (serving : L → ServersView) {given : Given} (shape : Shape) (xs ys : List L) (marks marks' : Marks) (m n : PendingMap L) (w : StripedView) (call : LogletCall) (answer : LogletAnswer) → striped_view view serving shape xs marks m given ≡ w → IsStriped (state_of view shape xs marks m) → IsStriped (state_of view shape ys marks' n) → CanCall w.loglet call
       → Does (loglet_of (state_of view shape xs marks m)) call answer (loglet_of (state_of view shape ys marks' n)) → LogletStep w.loglet call answer (loglet_of (state_of view shape ys marks' n))
   step_whole serving shape xs ys marks marks' m n w call answer e ha hb can does =
       step_from (state_of view shape xs marks m) (state_of view shape ys marks' n) w.loglet call answer (shows serving shape xs marks m w e) ha hb can does
@@ -134,7 +135,7 @@ module _ {L : Type 0} (view : L → LogletView) where
   of_some (Some a) e = (a, refl)
 
   -- an open operation that waits is undecided
-  pub waits_whole : (serving : L → ServersView) {told : ℕ} (shape : Shape) (xs : List L) (marks : Marks) (m : PendingMap L) (w : StripedView) (t : ℕ) → striped_view view serving shape xs marks m told ≡ w → IsStriped (state_of view shape xs marks m) → IsOpen w.loglet t → Waits m t → IsUndecidedAt (loglet_of (state_of view shape xs marks m)) t
+  pub waits_whole : (serving : L → ServersView) {given : Given} (shape : Shape) (xs : List L) (marks : Marks) (m : PendingMap L) (w : StripedView) (t : ℕ) → striped_view view serving shape xs marks m given ≡ w → IsStriped (state_of view shape xs marks m) → IsOpen w.loglet t → Waits m t → IsUndecidedAt (loglet_of (state_of view shape xs marks m)) t
   waits_whole serving shape xs marks m w t e h open' waiting =
       let p = of_some (get nat_eq m t) (open_there serving shape xs marks m w t e h open') in
       undecided_whole shape xs marks m t p.0 h p.1 (waiting p.0 p.1)

@@ -1,16 +1,17 @@
 -- What the stripes of a striped loglet are handed.
 use Rattle.std.proofs.Common.{◌≡◌, ℕ, suc, ◌/◌, ◌%◌, ◌<◌, List, [], ◌∷◌, length, map, set, get_or, Some, refl, sym, ap, ◌∙◌, subst}
-use Rattle.std.specs.Prelude.{◌⊎◌, slice_get}
+use Rattle.std.specs.Prelude.{slice_get}
 use Rattle.loglet_api.specs.declared.call.LogletCall.{LogletCall}
 use Rattle.loglet_api.specs.declared.call.LogletCall.TheVariants.{Stray}
 use Rattle.loglet_api.specs.declared.call.LogletAnswer.{LogletAnswer}
 use Rattle.loglet_api.specs.View.{LogletView}
 use Rattle.loglet_api.specs.Servers.{ServersView, Serves}
+use Rattle.striped_loglet.specs.declared.given.Given.{Given}
 use Rattle.striped_loglet.specs.declared.marks.Marks.{Marks}
 use Rattle.striped_loglet.specs.declared.shape.Shape.{Shape}
 use Rattle.striped_loglet.specs.Shapes.{HasServer}
 use Rattle.striped_loglet.specs.State.{PendingMap}
-use Rattle.striped_loglet.specs.Servings.{ServesServer, ServesStray, CarriesOne}
+use Rattle.striped_loglet.specs.Servings.{ServesServer, ServesStray, CarriesAt, CarriesSome}
 use Rattle.striped_loglet.specs.Striped.{StripedView, striped_view, serving_of}
 use Rattle.striped_loglet.proofs.Lists.{map_set}
 use Rattle.striped_loglet.proofs.Serving.{serving_at, served, carries_some}
@@ -22,15 +23,15 @@ length_serving serving (x ∷ xs) = ap suc (length_serving serving xs)
 
 module _ {L : Type 0} (view : L → LogletView) (serving : L → ServersView) where
   -- as it is of the fields, so it is of what is shown
-  pub serves_from : (shape : Shape) (xs : List L) (marks : Marks) (m : PendingMap L) (told : ℕ) (w : StripedView) (call : LogletCall) (answer : LogletAnswer) (new : ServersView) → striped_view view serving shape xs marks m told ≡ w → Serves (served (map serving xs) told) call answer new → Serves (serving_of w) call answer new
-  serves_from shape xs marks m told w call answer new e h = subst (λ (v : StripedView). Serves (serving_of v) call answer new) e h
+  pub serves_from : (shape : Shape) (xs : List L) (marks : Marks) (m : PendingMap L) (given : Given) (w : StripedView) (call : LogletCall) (answer : LogletAnswer) (new : ServersView) → striped_view view serving shape xs marks m given ≡ w → Serves (served (map serving xs) given) call answer new → Serves (serving_of w) call answer new
+  serves_from shape xs marks m given w call answer new e h = subst (λ (v : StripedView). Serves (serving_of v) call answer new) e h
 
-  pub same_from : (shape : Shape) (xs : List L) (marks : Marks) (m : PendingMap L) (told : ℕ) (w : StripedView) (new : ServersView) → striped_view view serving shape xs marks m told ≡ w → new ≡ served (map serving xs) told → new ≡ serving_of w
-  same_from shape xs marks m told w new e h = h ∙ ap serving_of e
+  pub same_from : (shape : Shape) (xs : List L) (marks : Marks) (m : PendingMap L) (given : Given) (w : StripedView) (new : ServersView) → striped_view view serving shape xs marks m given ≡ w → new ≡ served (map serving xs) given → new ≡ serving_of w
+  same_from shape xs marks m given w new e h = h ∙ ap serving_of e
 
-  pub server_handed : (shape : Shape) (xs : List L) (marks : Marks) (m : PendingMap L) (told : ℕ) (w : StripedView) (number i server : ℕ) (call : ℕ → LogletCall) (answer : LogletAnswer) (old new : L) → striped_view view serving shape xs marks m told ≡ w → HasServer (map view xs) number i server → old ≡ get_or xs i old
+  pub server_handed : (shape : Shape) (xs : List L) (marks : Marks) (m : PendingMap L) (given : Given) (w : StripedView) (number i server : ℕ) (call : ℕ → LogletCall) (answer : LogletAnswer) (old new : L) → striped_view view serving shape xs marks m given ≡ w → HasServer (map view xs) number i server → old ≡ get_or xs i old
       → Serves (serving old) (call server) answer (serving new) → ServesServer w.stripes w.servings number call answer (map serving (set xs i new))
-  server_handed shape xs marks m told w number i server call answer old new e h is serves =
+  server_handed shape xs marks m given w number i server call answer old new e h is serves =
       subst (λ (v : StripedView). ServesServer v.stripes v.servings number call answer (map serving (set xs i new))) e (record {
         stripe = i;
         inner = server;
@@ -42,9 +43,9 @@ module _ {L : Type 0} (view : L → LogletView) (serving : L → ServersView) wh
         rest = map_set serving xs i new;
       })
 
-  pub stray_handed : (shape : Shape) (xs : List L) (marks : Marks) (m : PendingMap L) (told : ℕ) (w : StripedView) (word count i inner : ℕ) (answer : LogletAnswer) (old new : L) → striped_view view serving shape xs marks m told ≡ w → count ≡ length xs → i ≡ word % count → inner ≡ word / count → i < length xs → old ≡ get_or xs i old
+  pub stray_handed : (shape : Shape) (xs : List L) (marks : Marks) (m : PendingMap L) (given : Given) (w : StripedView) (word count i inner : ℕ) (answer : LogletAnswer) (old new : L) → striped_view view serving shape xs marks m given ≡ w → count ≡ length xs → i ≡ word % count → inner ≡ word / count → i < length xs → old ≡ get_or xs i old
       → Serves (serving old) (Stray inner) answer (serving new) → ServesStray w.servings word answer (map serving (set xs i new))
-  stray_handed shape xs marks m told w word count i inner answer old new e ec ei en l is serves =
+  stray_handed shape xs marks m given w word count i inner answer old new e ec ei en l is serves =
       let k : count ≡ length (map serving xs) = ec ∙ sym (length_serving serving xs) in
       let place : i ≡ word % length (map serving xs) = ei ∙ ap (λ (n : ℕ). word % n) k in
       subst (λ (v : StripedView). ServesStray v.servings word answer (map serving (set xs i new))) e (record {
@@ -55,10 +56,11 @@ module _ {L : Type 0} (view : L → LogletView) (serving : L → ServersView) wh
         rest = map_set serving xs i new ∙ ap (λ (n : ℕ). set (map serving xs) n (serving new)) place;
       })
 
-  pub same_handed : (shape : Shape) (xs : List L) (marks : Marks) (m : PendingMap L) (told : ℕ) (w : StripedView) (new : List ServersView) → striped_view view serving shape xs marks m told ≡ w → new ≡ map serving xs → new ≡ w.servings
-  same_handed shape xs marks m told w new e h = h ∙ ap (λ (v : StripedView). v.servings) e
+  pub same_handed : (shape : Shape) (xs : List L) (marks : Marks) (m : PendingMap L) (given : Given) (w : StripedView) (new : List ServersView) → striped_view view serving shape xs marks m given ≡ w → new ≡ map serving xs → new ≡ w.servings
+  same_handed shape xs marks m given w new e h = h ∙ ap (λ (v : StripedView). v.servings) e
 
-  pub carry_handed : (shape : Shape) (xs : List L) (marks : Marks) (m : PendingMap L) (told : ℕ) (w : StripedView) (i t word : ℕ) (new : List ServersView) → striped_view view serving shape xs marks m told ≡ w → (new ≡ map serving xs) ⊎ CarriesOne (map serving xs) i t word new
-      → (new ≡ w.servings) ⊎ ((j : ℕ) × (u : ℕ) × CarriesOne w.servings j u word new)
-  carry_handed shape xs marks m told w i t word new e h =
-      subst (λ (v : StripedView). (new ≡ v.servings) ⊎ ((j : ℕ) × (u : ℕ) × CarriesOne v.servings j u word new)) e (carries_some (map serving xs) new i t word h)
+  pub carry_handed : (shape : Shape) (xs : List L) (marks : Marks) (m : PendingMap L) (given : Given) (w : StripedView) (i t word : ℕ) (answer : LogletAnswer) (new : List ServersView) → striped_view view serving shape xs marks m given ≡ w → CarriesAt (map serving xs) i t word answer new → CarriesSome w.servings word answer new
+  carry_handed shape xs marks m given w i t word answer new e h = subst (λ (v : StripedView). CarriesSome v.servings word answer new) e (carries_some (map serving xs) new i t word answer h)
+
+  pub refusals_from : (shape : Shape) (xs : List L) (marks : Marks) (m : PendingMap L) (given : Given) (w : StripedView) → striped_view view serving shape xs marks m given ≡ w → marks.refusals ≡ w.refusals
+  refusals_from shape xs marks m given w e = ap (λ (v : StripedView). v.refusals) e

@@ -19,3 +19,4 @@ pub mod Begins
 pub mod Fresh
 pub mod Serving
 pub mod Handing
+pub mod Works

@@ -13,6 +13,7 @@ use Rattle.loglet_api.specs.View.{LogletView, IsOpen}
 use Rattle.loglet_api.specs.Servers.{ServersView}
 use Rattle.loglet_api.specs.Step.{LogletStep, Does, RoseBy, Moves, Restarts, TakesAnswer, Forgets, Carries, wanted_by, told_reach, told_firm, told_cap, told_lacks}
 use Rattle.loglet_api.proofs.Keeps.{step_keeps}
+use Rattle.striped_loglet.specs.declared.given.Given.{Given}
 use Rattle.striped_loglet.specs.declared.marks.Marks.{Marks}
 use Rattle.striped_loglet.specs.declared.shape.Shape.{Shape}
 use Rattle.striped_loglet.specs.declared.plan.Plan.{Plan}
@@ -205,11 +206,11 @@ module _ {L : Type 0} (view : L → LogletView) where
       some_view : (a c : LogletView) → Some a ≡ Some c → a ≡ c
       some_view a c k = cc
 
-  pub server_of_all : (serving : L → ServersView) {told : ℕ} (shape : Shape) (xs : List L) (marks : Marks) (m : PendingMap L) (w : StripedView) (server : ℕ) → striped_view view serving shape xs marks m told ≡ w → IsStriped (state_of view shape xs marks m) → server < w.loglet.servers → server < total (λ v. v.servers) (map view xs)
+  pub server_of_all : (serving : L → ServersView) {given : Given} (shape : Shape) (xs : List L) (marks : Marks) (m : PendingMap L) (w : StripedView) (server : ℕ) → striped_view view serving shape xs marks m given ≡ w → IsStriped (state_of view shape xs marks m) → server < w.loglet.servers → server < total (λ v. v.servers) (map view xs)
   server_of_all serving shape xs marks m w server e h l = let a = ap (λ (v : StripedView). v.loglet.servers) e in let b = h.shaped.servers in omega (arith, l, a, b)
 
   -- which stripe it was
-  pub server_called : (serving : L → ServersView) {told : ℕ} (shape : Shape) (xs : List L) (marks : Marks) (m : PendingMap L) (w : StripedView) (number i server : ℕ) (call : ℕ → LogletCall) (answer : LogletAnswer) (old new : L) → striped_view view serving shape xs marks m told ≡ w → HasServer (map view xs) number i server → old ≡ get_or xs i old
+  pub server_called : (serving : L → ServersView) {given : Given} (shape : Shape) (xs : List L) (marks : Marks) (m : PendingMap L) (w : StripedView) (number i server : ℕ) (call : ℕ → LogletCall) (answer : LogletAnswer) (old new : L) → striped_view view serving shape xs marks m given ≡ w → HasServer (map view xs) number i server → old ≡ get_or xs i old
       → LogletStep (view old) (call server) answer (view new) → CallsServer w.stripes number call answer (map view (set xs i new))
   server_called serving shape xs marks m w number i server call answer old new e h is step =
       let at = view_at view xs i old (server_there xs i server h) is in
@@ -226,7 +227,7 @@ module _ {L : Type 0} (view : L → LogletView) where
       some_view : (a c : LogletView) → Some a ≡ Some c → a ≡ c
       some_view a c k = cc
 
-  pub stray_called : (serving : L → ServersView) {told : ℕ} (shape : Shape) (xs : List L) (marks : Marks) (m : PendingMap L) (w : StripedView) (word count i inner : ℕ) (answer : LogletAnswer) (old new : L) → striped_view view serving shape xs marks m told ≡ w → count ≡ length xs → i ≡ word % count → inner ≡ word / count → i < length xs → old ≡ get_or xs i old
+  pub stray_called : (serving : L → ServersView) {given : Given} (shape : Shape) (xs : List L) (marks : Marks) (m : PendingMap L) (w : StripedView) (word count i inner : ℕ) (answer : LogletAnswer) (old new : L) → striped_view view serving shape xs marks m given ≡ w → count ≡ length xs → i ≡ word % count → inner ≡ word / count → i < length xs → old ≡ get_or xs i old
       → LogletStep (view old) (Stray inner) answer (view new) → Strays w.stripes word answer (map view (set xs i new))
   stray_called serving shape xs marks m w word count i inner answer old new e ec ei en l is step =
       let k : count ≡ length (map view xs) = ec ∙ sym (length_view view xs) in

@@ -7,3 +7,4 @@ pub mod Calls
 pub mod Going
 pub mod Striped
 pub mod Servings
+pub mod Works

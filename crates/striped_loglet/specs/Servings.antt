@@ -4,7 +4,7 @@ use Rattle.loglet_api.specs.declared.call.Refused.{Refused}
 use Rattle.loglet_api.specs.declared.call.LogletCall.{LogletCall}
 use Rattle.loglet_api.specs.declared.call.LogletCall.TheVariants.{Carry, Stray}
 use Rattle.loglet_api.specs.declared.call.LogletAnswer.{LogletAnswer}
-use Rattle.loglet_api.specs.declared.call.LogletAnswer.TheVariants.{Carried}
+use Rattle.loglet_api.specs.declared.call.LogletAnswer.TheVariants.{Refusal, Carried}
 use Rattle.loglet_api.specs.View.{LogletView}
 use Rattle.loglet_api.specs.Servers.{ServerState, ServersView, Serves}
 use Rattle.striped_loglet.specs.Shapes.{HasServer}
@@ -36,21 +36,19 @@ pub record ServesStray (old : List ServersView) (word : ℕ) (answer : LogletAns
 -- what carrying an operation of a stripe does to its servers: nothing where that was decided
 abbrev pub ServesCarry : {A : Type 0} → ServersView → ℕ → ℕ → Result A Refused → ServersView → Type 0
 ServesCarry old t word (Ok outcome) new = (new ≡ old) ⊎ Serves old (Carry t word) Carried new
-ServesCarry old t word (Err refused) new = new ≡ old
+ServesCarry old t word (Err refused) new = Serves old (Carry t word) (Refusal refused) new
 
--- an operation of one stripe was carried by this word
-pub record CarriesOne (old : List ServersView) (i t word : ℕ) (new : List ServersView) : Type 0 where
+-- an operation of one stripe was carried by this word, once
+pub record CarriesOne (old : List ServersView) (i t word : ℕ) (answer : LogletAnswer) (new : List ServersView) : Type 0 where
   pub before : ServersView
   pub after : ServersView
   pub is : slice_get old i ≡ Some before
-  pub serves : Serves before (Carry t word) Carried after
+  pub serves : Serves before (Carry t word) answer after
   pub rest : new ≡ set old i after
 
-abbrev pub CarriesAt : {A : Type 0} → List ServersView → ℕ → ℕ → ℕ → Result A Refused → List ServersView → Type 0
-CarriesAt old i t word (Ok u) new = (new ≡ old) ⊎ CarriesOne old i t word new
-CarriesAt old i t word (Err refused) new = new ≡ old
+abbrev pub CarriesAt : List ServersView → ℕ → ℕ → ℕ → LogletAnswer → List ServersView → Type 0
+CarriesAt old i t word answer new = (new ≡ old) ⊎ CarriesOne old i t word answer new
 
--- what a carry of the loglet does to the servers of its stripes: it hands its word to one of them, or does nothing to any
-abbrev pub CarriesSome : {A : Type 0} → List ServersView → ℕ → Result A Refused → List ServersView → Type 0
-CarriesSome old word (Ok u) new = (new ≡ old) ⊎ ((i : ℕ) × (t : ℕ) × CarriesOne old i t word new)
-CarriesSome old word (Err refused) new = new ≡ old
+-- What a carry of the loglet does to the servers of its stripes: it hands its word to one of them, once, or does nothing to any.
+abbrev pub CarriesSome : List ServersView → ℕ → LogletAnswer → List ServersView → Type 0
+CarriesSome old word answer new = (new ≡ old) ⊎ ((i : ℕ) × (t : ℕ) × CarriesOne old i t word answer new)

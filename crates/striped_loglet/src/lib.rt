@@ -6,12 +6,14 @@
 //! - `plan`: how an operation goes round the stripes.
 //! - `pending`: the open operations, by ticket.
 //! - `marks`: what the loglet has told and counted.
+//! - `given`: what it was given.
 //!
 //! The definitions stand in `specs/`: `Striped` (what a striped loglet shows), `Views` (its stripes,
 //! and the log in them), `Plans` (how operations go round), `State` (its fields as plain values),
 //! `Going` (what holds of them), `Pendings` (changes of the open operations).
 #![tactic(auto)]
 
+pub mod given;
 pub mod marks;
 pub mod pending;
 pub mod plan;

@@ -4,14 +4,16 @@ ghost use Rattle.loglet_api.specs.View.{LogletView, IsFresh, IsOpen};
 ghost use Rattle.loglet_api.specs.Sound.{IsSound};
 ghost use Rattle.loglet_api.specs.Step.{CanBegin, CanCall, LogletStep};
 ghost use Rattle.loglet_api.specs.Servers.{Serves};
-ghost use Rattle.loglet_api.specs.Answers.{carry_answer, stray_answer, restart_answer};
+ghost use Rattle.loglet_api.specs.Answers.{begin_answer, carry_answer, stray_answer, restart_answer};
 ghost use Rattle.striped_loglet.specs.Views.{total, least_of};
 ghost use Rattle.striped_loglet.specs.Shapes.{kind_by, most_of};
 ghost use Rattle.striped_loglet.specs.Plans.{heard_by, told_tail};
 ghost use Rattle.striped_loglet.specs.Calls.{CallsServer, Strays, Starts, Hears, CarriesInner, BeginsNext};
 ghost use Rattle.striped_loglet.specs.Servings.{ServesServer, ServesStray, CarriesAt, CarriesSome};
-ghost use Rattle.striped_loglet.specs.Striped.{serving_of};
+ghost use Rattle.striped_loglet.specs.Striped.{serving_of, CountsFaults};
+ghost use Rattle.striped_loglet.specs.Works.{BeginsBy};
 
+use crate::given::Given;
 use crate::marks::Marks;
 use crate::pending::{Course, Decided, Pending, put, set, take_decided};
 use crate::plan::{Asked, Heard, Plan, told};
@@ -37,8 +39,7 @@ pub struct StripedLoglet<L: Loglet> {
     marks: Marks,
     /// The open operations, by ticket.
     pending: HashMap<u64, Pending<L>>,
-    /// The word or count that the last carry, stray, stop or restart was given.
-    told: u64,
+    given: Given,
 }
 
 impl<L: Loglet> Model for StripedLoglet<L> {
@@ -50,7 +51,7 @@ impl<L: Loglet> Model for StripedLoglet<L> {
 
     ghost Value = { StripedView };
 
-    ghost view = { λ a. striped_view L.view L.serving a.shape a.stripes.items a.marks a.pending a.told };
+    ghost view = { λ a. striped_view L.view L.serving a.shape a.stripes.items a.marks a.pending a.given };
 
     ghost invariant = { λ a. IsStriped (state_of L.view a.shape a.stripes.items a.marks a.pending) × (length (states_of (map L.serving a.stripes.items)) ≡ a.shape.servers) };
 }
@@ -75,7 +76,9 @@ impl<L: Loglet> StripedLoglet<L> {
         ensures limit { result.loglet.limit ≡ least_of (map (λ v. v.limit) (map L.view inner.items)) / 4 }
         ensures stripes { result.stripes ≡ map L.view inner.items }
         ensures servings { result.servings ≡ map L.serving inner.items }
-        ensures told { result.told ≡ 0 }
+        ensures refusals { result.refusals ≡ 0 }
+        ensures given { result.given ≡ record { told = 0; carries = 0; strays = 0 } }
+        ensures faults { CountsFaults result }
         ensures room { (i : ℕ) (v : LogletView) → slice_get (map L.view inner.items) i ≡ Some v → result.loglet.room ≡ length inner.items * v.room }
     {
         StripedLoglet {
@@ -83,7 +86,7 @@ impl<L: Loglet> StripedLoglet<L> {
             stripes: inner,
             marks: Marks::new(),
             pending: HashMap::new(alloc),
-            told: 0,
+            given: Given::new(),
         }
     }
 }
@@ -121,7 +124,13 @@ impl<L: Loglet> Loglet for StripedLoglet<L> {
         down_of(self.stripes.as_slice())
     }
 
-    fn begin(&mut self, op: Op) -> Result<Ticket, Refused> {
+    fn begin(&mut self, op: Op) -> Result<Ticket, Refused>
+        requires { CanCall self.old.loglet (LogletCall.Begin op) }
+        ensures step { LogletStep self.old.loglet (LogletCall.Begin op) (begin_answer result) self.new.loglet }
+        ensures serves { Serves (serving_of self.old) (LogletCall.Begin op) (begin_answer result) (serving_of self.new) }
+        ensures stripe { BeginsBy self.old op result self.new }
+        ensures faults { CountsFaults self.new }
+    {
         if self.marks.is_full(&op, self.shape.room, self.shape.limit) {
             self.marks = self.marks.refused();
             return Err(Refused::Full);
@@ -163,7 +172,9 @@ impl<L: Loglet> Loglet for StripedLoglet<L> {
         requires { CanCall self.old.loglet (LogletCall.Carry ticket word) }
         ensures step { LogletStep self.old.loglet (LogletCall.Carry ticket word) (carry_answer result) self.new.loglet }
         ensures serves { Serves (serving_of self.old) (LogletCall.Carry ticket word) (carry_answer result) (serving_of self.new) }
-        ensures handed { CarriesSome self.old.servings word result self.new.servings }
+        ensures handed { CarriesSome self.old.servings word (carry_answer result) self.new.servings }
+        ensures refusals { self.new.refusals ≡ self.old.refusals }
+        ensures faults { CountsFaults self.new }
     {
         let number = ticket.number();
         let course = self.pending[&number].course();
@@ -172,7 +183,7 @@ impl<L: Loglet> Loglet for StripedLoglet<L> {
                 let stripes = &mut self.stripes;
                 match carry_inner(stripes, &mut self.pending, number, &course, inner, word) {
                     Ok(()) => {
-                        self.told = word;
+                        self.given = self.given.carried(word);
                         Ok(())
                     }
                     Err(refused) => Err(refused),
@@ -182,7 +193,7 @@ impl<L: Loglet> Loglet for StripedLoglet<L> {
                 let cut = self.marks.cut;
                 match begin_next(&mut self.stripes, &mut self.pending, number, &course, cut) {
                     Ok(()) => {
-                        self.told = word;
+                        self.given = self.given.carried(word);
                         Ok(())
                     }
                     Err(refused) => Err(refused),
@@ -191,14 +202,26 @@ impl<L: Loglet> Loglet for StripedLoglet<L> {
         }
     }
 
-    fn take(&mut self, ticket: Ticket) -> Option<Answer> {
+    fn take(&mut self, ticket: Ticket) -> Option<Answer>
+        requires { CanCall self.old.loglet (LogletCall.Take ticket) }
+        ensures step { LogletStep self.old.loglet (LogletCall.Take ticket) (LogletAnswer.Taken result) self.new.loglet }
+        ensures serves { Serves (serving_of self.old) (LogletCall.Take ticket) (LogletAnswer.Taken result) (serving_of self.new) }
+        ensures rest { self.new ≡ record self.old { loglet = self.new.loglet } }
+        ensures faults { CountsFaults self.new }
+    {
         let Decided { task, size, answer } = take_decided(&mut self.pending, ticket.number())?;
         let answer = told(task, self.marks.cut, answer);
         self.marks = self.marks.told(&answer, task.wanted(size));
         Some(answer)
     }
 
-    fn forget(&mut self, ticket: Ticket) {
+    fn forget(&mut self, ticket: Ticket)
+        requires { CanCall self.old.loglet (LogletCall.Forget ticket) }
+        ensures step { LogletStep self.old.loglet (LogletCall.Forget ticket) LogletAnswer.Forgotten self.new.loglet }
+        ensures serves { Serves (serving_of self.old) (LogletCall.Forget ticket) LogletAnswer.Forgotten (serving_of self.new) }
+        ensures rest { self.new ≡ record self.old { loglet = self.new.loglet; stripes = self.new.stripes } }
+        ensures faults { CountsFaults self.new }
+    {
         let number = ticket.number();
         if let Some(inner) = self.pending[&number].inner {
             self.stripes[inner.stripe as usize].forget(inner.ticket);
@@ -218,12 +241,14 @@ impl<L: Loglet> Loglet for StripedLoglet<L> {
         ensures serves { Serves (serving_of self.old) (LogletCall.Stray word) (stray_answer result) (serving_of self.new) }
         ensures stripe { Strays self.old.stripes word (stray_answer result) self.new.stripes }
         ensures handed { ServesStray self.old.servings word (stray_answer result) self.new.servings }
+        ensures rest { self.new ≡ record self.old { loglet = self.new.loglet; stripes = self.new.stripes; servings = self.new.servings; given = self.new.given } }
+        ensures faults { CountsFaults self.new }
     {
         let count = self.stripes.len() as u64;
         let (i, rest) = picked(word, count);
         match self.stripes[i].stray(rest) {
             Ok(()) => {
-                self.told = word;
+                self.given = self.given.strayed(word);
                 Ok(())
             }
             Err(refused) => Err(refused),
@@ -236,10 +261,11 @@ impl<L: Loglet> Loglet for StripedLoglet<L> {
         ensures serves { Serves (serving_of self.old) (LogletCall.Stop server after) LogletAnswer.Stopped (serving_of self.new) }
         ensures stripe { CallsServer self.old.stripes server (λ inner. LogletCall.Stop inner after) LogletAnswer.Stopped self.new.stripes }
         ensures handed { ServesServer self.old.stripes self.old.servings server (λ inner. LogletCall.Stop inner after) LogletAnswer.Stopped self.new.servings }
+        ensures rest { self.new ≡ record self.old { loglet = self.new.loglet; stripes = self.new.stripes; servings = self.new.servings } }
+        ensures faults { CountsFaults self.new }
     {
         let (i, server) = place_of(self.stripes.as_slice(), server);
         self.stripes[i].stop(server, after);
-        self.told = after;
     }
 
     fn restart(&mut self, server: u32, word: u64) -> Result<bool, Refused>
@@ -248,15 +274,11 @@ impl<L: Loglet> Loglet for StripedLoglet<L> {
         ensures serves { Serves (serving_of self.old) (LogletCall.Restart server word) (restart_answer result) (serving_of self.new) }
         ensures stripe { CallsServer self.old.stripes server (λ inner. LogletCall.Restart inner word) (restart_answer result) self.new.stripes }
         ensures handed { ServesServer self.old.stripes self.old.servings server (λ inner. LogletCall.Restart inner word) (restart_answer result) self.new.servings }
+        ensures rest { self.new ≡ record self.old { loglet = self.new.loglet; stripes = self.new.stripes; servings = self.new.servings } }
+        ensures faults { CountsFaults self.new }
     {
         let (i, server) = place_of(self.stripes.as_slice(), server);
-        match self.stripes[i].restart(server, word) {
-            Ok(up) => {
-                self.told = word;
-                Ok(up)
-            }
-            Err(refused) => Err(refused),
-        }
+        self.stripes[i].restart(server, word)
     }
 }
 
@@ -293,7 +315,7 @@ fn carry_inner<L: Loglet>(
     requires next { course.now.plan.next ≤ 8 }
     requires is_there { (v : LogletView) → slice_get (map L.view stripes.old.items) inner.stripe ≡ Some v → IsOpen v inner.ticket }
     ensures step { CarriesInner (map L.view stripes.old.items) pending.old number course.now inner word result (map L.view stripes.new.items) pending.new }
-    ensures serves { CarriesAt (map L.serving stripes.old.items) inner.stripe inner.ticket word result (map L.serving stripes.new.items) }
+    ensures serves { CarriesAt (map L.serving stripes.old.items) inner.stripe inner.ticket word (carry_answer result) (map L.serving stripes.new.items) }
 {
     let count = stripes.len() as u64;
     let plan = course.plan;

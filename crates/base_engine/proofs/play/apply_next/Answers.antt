@@ -4,7 +4,7 @@ use Rattle.virtual_log.specs.Holding.{Reads}
 use Rattle.replica_api.specs.Replica.{ReplicaView, saved_in}
 use Rattle.base_engine.specs.Following.{Follows}
 use Rattle.base_engine.proofs.Following.{follows_later, follows_done, follows_fault, follows_same, goes_none, goes_one, crash_at_rest, crash_in_apply, known_done, known_fault}
-use Rattle.base_engine.proofs.Arming.{arming_refl, arming_same, arming_bytes, arming_advanced, arming_failed, told_of_log}
+use Rattle.base_engine.proofs.Arming.{arming_refl, arming_same, arming_wanting, arming_advanced, arming_failed, told_of_log}
 use Rattle.base_engine.proofs.play.apply_next.Goals as goal
 
 pub returns-in-Err-clause-follows : goal.returns-in-Err-clause-follows
@@ -170,7 +170,7 @@ returns-in-Memory-clause-follows g c =
     let at = c.in-Found.found in
     let read = subst (λ n. Reads holds seen c.cursor-position.result m n) c.in-Found.is c.in-Ok.ensures.next in
     let here = subst (λ i. holds seen i c.in-Found.entry) (c.if-found-position.false ∙ c.cursor-position.ensures.cursor) read.2 in
-    follows_same holds meaning seen v w on (ap saved_in c.in-Memory.ensures.takes) (ap (λ (x : ReplicaView). x.asked) c.in-Memory.ensures.takes) c.in-Memory.ensures.survives
+    follows_same holds meaning seen v w on (ap saved_in c.in-Memory.ensures.takes.1) (ap (λ (x : ReplicaView). x.asked) c.in-Memory.ensures.takes.1) c.in-Memory.ensures.survives
 
 pub returns-in-Memory-clause-any_crash : goal.returns-in-Memory-clause-any_crash
 returns-in-Memory-clause-any_crash g c =
@@ -228,7 +228,7 @@ pub returns-in-Down-clause-arming : goal.returns-in-Down-clause-arming
 returns-in-Down-clause-arming g c = let r = g.R.Replica in arming_same 0 (r.shows c.args.replica.now) (r.shows c.apply.new.self) c.in-Down.ensures.takes.1
 
 pub returns-in-Memory-clause-arming : goal.returns-in-Memory-clause-arming
-returns-in-Memory-clause-arming g c = let r = g.R.Replica in arming_bytes 0 (r.shows c.args.replica.now) (r.shows c.apply.new.self) c.in-Memory.ensures.takes
+returns-in-Memory-clause-arming g c = let r = g.R.Replica in arming_wanting 0 (r.shows c.args.replica.now) (r.shows c.apply.new.self) c.in-Memory.ensures.takes
 
 pub returns-in-Err-clause-never_store : goal.returns-in-Err-clause-never_store
 returns-in-Err-clause-never_store g c = λ is. told_of_log c.in-Err.fault (sym c.told.ensures ∙ is)
@@ -273,4 +273,4 @@ returns-in-Down-clause-goes_on g c =
 pub returns-in-Memory-clause-goes_on : goal.returns-in-Memory-clause-goes_on
 returns-in-Memory-clause-goes_on g c =
     let r = g.R.Replica in
-    goes_none g.L.SharedLog.holds r.meaning (g.L.SharedLog.seen c.read_next.new.self) (saved_in (r.shows c.args.replica.now)) (saved_in (r.shows c.apply.new.self)) (ap saved_in c.in-Memory.ensures.takes)
+    goes_none g.L.SharedLog.holds r.meaning (g.L.SharedLog.seen c.read_next.new.self) (saved_in (r.shows c.args.replica.now)) (saved_in (r.shows c.apply.new.self)) (ap saved_in c.in-Memory.ensures.takes.1)

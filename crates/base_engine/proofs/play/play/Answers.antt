@@ -1,11 +1,12 @@
 use Rattle.std.proofs.Common.{◌≡◌, ◌⊎◌, ◌∙◌, ◌≤◌, true, false, inl, inr, subst, refl, sym, ap, ⊎_elim, arith}
-use Rattle.disk_model.specs.Disk.{Rose}
+use Rattle.std.specs.Prelude.{if◌then◌else◌}
+use Rattle.disk_model.specs.Disk.{Rose, bumped}
 use Rattle.replica_api.specs.Replica.{ReplicaView, saved_in}
 use Rattle.base_engine.specs.Following.{Plays, GoesOn, KeepsTail}
 use Rattle.virtual_log.proofs.OneTurn.{later_refl, later_trans}
 use Rattle.base_engine.proofs.Following.{follows_same, follows_reopened, found_state, found_near, crash_at_rest, crash_on, goes_none, goes_found, goes_after, crash_in_reopen, known_reopened, known_same, turns_left}
 use Rattle.base_engine.proofs.Tails.{keeps_same, keeps_on}
-use Rattle.base_engine.proofs.Arming.{arming_refl, arming_trans, down_since, twice_again, store_since}
+use Rattle.base_engine.proofs.Arming.{arming_refl, arming_trans, down_since, twice_again, store_since, broken_rose, once_spent, once_but, once_from, once_unopened, unspent, spent, repaired_same}
 use Rattle.base_engine.proofs.play.play.Goals as goal
 
 pub entry-init : goal.entry-init
@@ -26,6 +27,8 @@ entry-init g c =
       up = λ h. absurd (cc);
       arming = arming_refl 0 (r.shows c.args.replica.now);
       used = λ h. absurd (cc);
+      spent = refl;
+      stays = λ h. refl;
       kept = refl;
       origin = refl;
       quiet = keeps_same (t.who c.args.log.now) (r.shows c.args.replica.now).cursor (t.seen c.args.log.now);
@@ -57,6 +60,8 @@ entry-preserved-in-Ok-Applied g c =
       up = λ h. plays.2;
       arming = arming_trans 0 (r.shows c.args.replica.now) (r.shows l.replica) (r.shows c.apply_next.new.replica) i.arming e.arming;
       used = λ h. subst (λ n. ((r.shows c.args.replica.now).down ≡ true) ⊎ Rose (r.shows c.args.replica.now).faults n) (sym plays.1) (i.used h);
+      spent = plays.1 ∙ i.spent;
+      stays = λ h. plays.2 ∙ sym plays.3 ∙ i.stays h;
       kept = e.kept ∙ i.kept;
       origin = e.origin ∙ i.origin;
       quiet = keeps_on p.law (t.who c.args.log.now) (r.shows c.args.replica.now).cursor first now new i.later e.later (r.shows l.replica).cursor i.forward i.quiet
@@ -186,7 +191,9 @@ entry-preserved g c =
       counts = omega (arith, i.counts, plays.1, up.faults);
       up = λ h. up.up;
       arming = arming_trans 0 a v w (arming_trans 0 a b v i.arming e.arming) c.in-Ok.ensures.arming;
-      used = λ h. subst (λ n. (a.down ≡ true) ⊎ Rose a.faults n) (sym up.faults) (down_since 0 a b v.faults i.arming plays.1 plays.2);
+      used = λ h. subst (λ n. (a.down ≡ true) ⊎ Rose a.faults n) (sym up.faults) (down_since 0 a b v.faults i.arming plays.1 (broken_rose b v plays.1 plays.2));
+      spent = up.faults ∙ plays.2 ∙ repaired_same a b (unspent l.spare a b.faults c.if-not-spare.false i.spent) (i.stays c.if-not-spare.false);
+      stays = λ h. absurd (cc);
       kept = up.kept ∙ (e.kept ∙ i.kept);
       origin = up.origin ∙ (e.origin ∙ i.origin);
       quiet = keeps_on p.law (t.who c.args.log.now) (r.shows c.args.replica.now).cursor first now new i.later e.later (r.shows l.replica).cursor i.forward i.quiet
@@ -233,7 +240,7 @@ returns-then-not-spare-clause-twice g c = λ is.
     let v = r.shows c.apply_next.new.replica in
     let plays = subst (λ x. Plays x b v (t.seen c.apply_next.new.log)) c.in-Ok-Broken.field-0-is c.in-Ok-Broken.ensures.plays in
     let none = c.if-not-spare.true in
-    let rose : Rose b.faults v.faults = ⊎_elim (λ (d : b.down ≡ true). let no : true ≡ false = sym d ∙ i.up none in absurd (cc)) (λ x. x) plays.2 in
+    let rose : Rose b.faults v.faults = ⊎_elim (λ (d : b.down ≡ true). let no : true ≡ false = sym d ∙ i.up none in absurd (cc)) (λ x. x) (broken_rose b v plays.1 plays.2) in
     twice_again (r.shows c.args.replica.now) b.faults v i.counts plays.1 (i.used none) rose
 
 pub returns-in-Err-open_again-clause-twice : goal.returns-in-Err-open_again-clause-twice
@@ -282,3 +289,40 @@ returns-in-Err-open_again-clause-goes_on g c =
     let a = saved_in (r.shows c.args.replica.now) in
     subst (λ s. GoesOn t.holds r.meaning.state (t.seen c.apply_next.new.log) a s) (sym (ap saved_in c.in-Err-open_again.ensures.down.is))
     (goes_after p.law t.holds r.meaning g.met.L.SharedLog.stays (t.seen l.log) (t.seen c.apply_next.new.log) a (saved_in (r.shows l.replica)) (saved_in (r.shows c.apply_next.new.replica)) e.later l.invariant.went e.goes_on)
+
+pub returns-in-Ok-Trimmed-clause-once : goal.returns-in-Ok-Trimmed-clause-once
+returns-in-Ok-Trimmed-clause-once g c =
+    let r = g.R.Replica in
+    let l = c.entry in
+    let plays = subst (λ x. Plays x (r.shows l.replica) (r.shows c.apply_next.new.replica) (g.L.SharedLog.seen c.apply_next.new.log)) c.in-Ok-Trimmed.field-0-is c.in-Ok-Trimmed.ensures.plays in
+    once_spent l.spare (r.shows c.args.replica.now) (r.shows c.apply_next.new.replica) (ap (λ (v : ReplicaView). v.faults) plays.0 ∙ l.invariant.spent)
+
+pub returns-then-not-spare-clause-once_refused : goal.returns-then-not-spare-clause-once_refused
+returns-then-not-spare-clause-once_refused g c =
+    let r = g.R.Replica in
+    let l = c.entry in
+    let a = r.shows c.args.replica.now in
+    let b = r.shows l.replica in
+    let v = r.shows c.apply_next.new.replica in
+    let plays = subst (λ x. Plays x b v (g.L.SharedLog.seen c.apply_next.new.log)) c.in-Ok-Broken.field-0-is c.in-Ok-Broken.ensures.plays in
+    let none = c.if-not-spare.true in
+    plays.2 ∙ ap (λ d. if d then b.faults else bumped b.faults) (l.invariant.up none) ∙ ap bumped (spent l.spare a b.faults none l.invariant.spent)
+
+pub returns-in-Err-clause-once_refused : goal.returns-in-Err-clause-once_refused
+returns-in-Err-clause-once_refused g c =
+    let r = g.R.Replica in
+    let l = c.entry in
+    let e = c.in-Err.ensures in
+    once_but (r.shows c.args.replica.now) (r.shows c.apply_next.new.replica) c.in-Err.fault e.never_store (once_spent l.spare (r.shows c.args.replica.now) (r.shows c.apply_next.new.replica) (e.calm.0 ∙ l.invariant.spent))
+
+pub returns-in-Err-open_again-clause-once_refused : goal.returns-in-Err-open_again-clause-once_refused
+returns-in-Err-open_again-clause-once_refused g c =
+    let r = g.R.Replica in
+    let l = c.entry in
+    let i = l.invariant in
+    let a = r.shows c.args.replica.now in
+    let b = r.shows l.replica in
+    let v = r.shows c.apply_next.new.replica in
+    let plays = subst (λ x. Plays x b v (g.L.SharedLog.seen c.apply_next.new.log)) c.in-Ok-Broken.field-0-is c.in-Ok-Broken.ensures.plays in
+    let faults = plays.2 ∙ repaired_same a b (unspent l.spare a b.faults c.if-not-spare.false i.spent) (i.stays c.if-not-spare.false) in
+    once_unopened 0 a v (r.shows c.open_again.new.replica) c.in-Err-open_again.fault faults c.in-Err-open_again.ensures.fails

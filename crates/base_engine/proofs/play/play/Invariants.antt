@@ -1,9 +1,9 @@
-use Rattle.std.proofs.Common.{◌≡◌, ◌⊎◌, true, false, ◌≤◌, ◌+◌, ◌-◌, ◌*◌}
+use Rattle.std.proofs.Common.{◌≡◌, ◌⊎◌, true, false, ◌≤◌, ◌+◌, ◌-◌, ◌*◌, if◌then◌else◌}
 use Rattle.disk_model.specs.Crash.{AnyCrash}
 use Rattle.disk_model.specs.Disk.{Rose}
 use Rattle.virtual_log.specs.Turning.{Later}
 use Rattle.replica_api.specs.Replica.{SpellsOne, saved_in}
-use Rattle.base_engine.specs.Arming.{LeavesArming}
+use Rattle.base_engine.specs.Arming.{LeavesArming, repaired}
 use Rattle.base_engine.specs.Following.{Follows, IsKnown, IsFound, GoesOn, KeepsTail}
 use Rattle.base_engine.proofs.Following.{turns_left}
 use Rattle.base_engine.proofs.play.play.Given as goal
@@ -28,6 +28,8 @@ invariant-entry g l =
       up : l.spare ≡ false → v.down ≡ false;
       arming : LeavesArming 0 w v;
       used : l.spare ≡ false → (w.down ≡ true) ⊎ Rose w.faults v.faults;
+      spent : v.faults ≡ (if l.spare then w.faults else repaired w);
+      stays : l.spare ≡ true → v.down ≡ w.down;
       kept : v.kept ≡ w.kept;
       origin : v.origin ≡ w.origin;
       quiet : KeepsTail (t.who l.fn.log) w.cursor (t.seen l.fn.log) (t.seen l.log);

@@ -95,3 +95,8 @@ pub returns-in-Err-trim_applied-clause-twice : goal.returns-in-Err-trim_applied-
 returns-in-Err-trim_applied-clause-twice g c = λ store.
     let t = g.L.SharedLog in
     absurd (never_store (t.who c.play.new.log) (t.seen c.play.new.log) (t.seen c.trim_applied.new.log) c.in-Err-trim_applied.fault c.in-Err-trim_applied.ensures.blames store)
+
+pub returns-in-Ok-trim_applied-clause-later : goal.returns-in-Ok-trim_applied-clause-later
+returns-in-Ok-trim_applied-clause-later g c =
+    let t = g.L.SharedLog in
+    later_trans g.L.Law.Rules.law (t.seen c.args.log.now) (t.seen c.play.new.log) (t.seen c.trim_applied.new.log) c.in-Ok.ensures.later c.in-Ok-trim_applied.ensures.later

@@ -1,7 +1,7 @@
 use Rattle.std.proofs.Common.{◌≡◌, ℕ, ◌-◌, Bool, true, false}
 use Rattle.quorum_cell.specs.Servers.{length_of, is_sealed}
-use Rattle.file_loglet.specs.Held.{is_armed}
-use Rattle.file_loglet.specs.Later.{IsLater}
+use Rattle.file_loglet.specs.Held.{IsCalm}
+use Rattle.file_loglet.specs.Later.{IsLater, records_between, TakesRecords}
 use Rattle.file_loglet.proofs.decide.store_up_to.Given as goal
 
 abbrev pub invariant-loop-server : goal.invariant-loop-server
@@ -9,8 +9,8 @@ invariant-loop-server g l = record {
   later : (cut : ℕ) (sealing : Bool) → IsLater l.entries cut sealing l.initial.server.server l.server.server;
   up : l.server.server.up ≡ true;
   unsealed : is_sealed l.server.server ≡ false;
-  faults : l.server.disk.faults ≡ l.initial.server.disk.faults;
-  armed : is_armed l.server ≡ is_armed l.initial.server;
+  calm : IsCalm l.initial.server.disk l.server.disk;
+  counted : TakesRecords (records_between l.initial.server.server l.server.server) l.initial.server.disk.armed l.server.disk.armed;
 }
 
 abbrev pub decreases-loop-server : goal.decreases-loop-server

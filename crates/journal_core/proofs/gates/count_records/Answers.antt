@@ -23,6 +23,7 @@ loop-size-preserved g c =
       inside = omega (arith, there, ap length here);
       fits = omega (arith, rw c.in-Some.is at c.in_ok-size.ensures.fits);
       armed = c.size_at.ensures.state.1 ∙ c.loop-size.invariant.armed;
+      word = c.size_at.ensures.word ∙ c.loop-size.invariant.word;
       stopped = c.size_at.ensures.state.0 ∙ c.loop-size.invariant.stopped;
       faults = c.in_ok-size.ensures.no_fault ∙ c.loop-size.invariant.faults;
     }

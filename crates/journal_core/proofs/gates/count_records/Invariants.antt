@@ -11,6 +11,7 @@ invariant-loop-size g l = record {
   inside : l.base + l.end ≤ length (content (g.D.Disk.view l.fn.disk).timeline.now);
   fits : l.base + l.end + 1 < 2 ^ 64;
   armed : (g.D.Disk.view l.disk).armed ≡ (g.D.Disk.view l.fn.disk).armed;
+  word : (g.D.Disk.view l.disk).word ≡ (g.D.Disk.view l.fn.disk).word;
   stopped : (g.D.Disk.view l.disk).stopped ≡ (g.D.Disk.view l.fn.disk).stopped;
   faults : (g.D.Disk.view l.disk).faults ≡ (g.D.Disk.view l.fn.disk).faults;
 }

@@ -27,6 +27,7 @@ loop-found-preserved g c =
       inside = omega (arith, there, long, ap length here);
       fits = omega (arith, rw c.in-Some.is at c.in_ok-payload.ensures.fits, long);
       armed = c.read_record.ensures.state.1 ∙ c.loop-found.invariant.armed;
+      word = c.read_record.ensures.word ∙ c.loop-found.invariant.word;
       stopped = c.read_record.ensures.state.0 ∙ c.loop-found.invariant.stopped;
       faults = c.in_ok-payload.ensures.no_fault ∙ c.loop-found.invariant.faults;
     }

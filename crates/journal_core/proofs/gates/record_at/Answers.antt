@@ -29,6 +29,7 @@ loop-before-preserved g c =
       walked = subst (λ (e : ℕ). IsWalked (c.loop-before._before + 1) e (drop base file)) end_is more;
       inside = omega (arith, there, ap length here);
       armed = c.size_at.ensures.state.1 ∙ c.loop-before.invariant.armed;
+      word = c.size_at.ensures.word ∙ c.loop-before.invariant.word;
       stopped = c.size_at.ensures.state.0 ∙ c.loop-before.invariant.stopped;
       faults = c.in_ok-size.ensures.no_fault ∙ c.loop-before.invariant.faults;
     }

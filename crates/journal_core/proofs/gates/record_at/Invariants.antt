@@ -10,6 +10,7 @@ invariant-loop-before g l = record {
   walked : IsWalked l._before (l.place - l.base) (drop l.base (content (g.D.Disk.view l.fn.disk).timeline.now));
   inside : l.place ≤ length (content (g.D.Disk.view l.fn.disk).timeline.now);
   armed : (g.D.Disk.view l.disk).armed ≡ (g.D.Disk.view l.fn.disk).armed;
+  word : (g.D.Disk.view l.disk).word ≡ (g.D.Disk.view l.fn.disk).word;
   stopped : (g.D.Disk.view l.disk).stopped ≡ (g.D.Disk.view l.fn.disk).stopped;
   faults : (g.D.Disk.view l.disk).faults ≡ (g.D.Disk.view l.fn.disk).faults;
 }

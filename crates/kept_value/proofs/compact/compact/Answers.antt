@@ -1,5 +1,6 @@
-use Rattle.std.proofs.Common.{◌≡◌, refl, Some}
+use Rattle.std.proofs.Common.{◌≡◌, ◌∙◌, ap, refl, Err, Some, arith}
 use Rattle.journal_core.specs.Records.{payloads}
+use Rattle.kept_value.proofs.Counts.{spends_more}
 use Rattle.kept_value.proofs.Laws.{nothing_other, still_left, compacting}
 use Rattle.kept_value.proofs.compact.compact.Goals as goal
 
@@ -57,3 +58,8 @@ returns-in-Err-Disk-clause-any_crash g c =
     let given = payloads c.in-Ok.records.items in
     let next : K.spelled given ≡ Some x = c.in-Ok.ensures in
     compacting K x j c.requires.up c.requires.survives c.requires.spelled given next c.compact.new.self.disk c.compact.ensures.any_crash
+
+pub returns-in-Err-Memory-clause-spares : goal.returns-in-Err-Memory-clause-spares
+returns-in-Err-Memory-clause-spares g c =
+    let e = c.in-Err-Memory.is ∙ ap Err c.in-Err-Memory.field-0-is in
+    record { faults = (c.compact.ensures.memory e).1; word = c.compact.ensures.word; spends = spends_more 2 4 _ _ (omega arith) (c.compact.ensures.spends_memory e) }

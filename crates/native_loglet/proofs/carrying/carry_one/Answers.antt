@@ -3,7 +3,7 @@ use Rattle.log_server.specs.View.{View}
 use Rattle.fate_words.specs.Words.{fate_of}
 use Rattle.native_loglet.proofs.Rules.{there_is, asks_of, rests_of, moved_by_answer, moved_by_request, if_ok, on_err}
 use Rattle.native_loglet.proofs.Alike.{set_same}
-use Rattle.native_loglet.proofs.Serving.{wear_same, moves_wear, states_same, lost_failed, none_failed, asked_failed, is_lost_by, is_kept_by}
+use Rattle.native_loglet.proofs.Serving.{wear_same, moves_wear, take_at, lost_failed, none_failed, asked_failed, is_lost_by, is_kept_by}
 use Rattle.native_loglet.specs.Natives.{states_in, down_in}
 use Rattle.native_loglet.proofs.Disks.{same_disks, put_disks}
 use Rattle.native_loglet.proofs.carrying.carry_one.Goals as goal
@@ -51,7 +51,7 @@ returns-in-Asks-clause-wear g c = if_ok c.ask.result _ _ (λ failed m. moves_wea
 pub returns-in-Asks-clause-spared : goal.returns-in-Asks-clause-spared
 returns-in-Asks-clause-spared g c =
     let here : c.picked-server.result < length c.args.replicas.now = omega (arith, c.picked-server.ensures.here, c.requires.can.members) in
-    on_err c.ask.result _ _ (λ same. states_same c.args.replicas.now c.picked-server.result (get_or c.args.replicas.now c.picked-server.result c.index-replicas-server.result) c.ask.new.replica here (ap (λ (v : View). get_or c.args.replicas.now c.picked-server.result v) c.index-replicas-server.is) same) c.ask.ensures.spared
+    on_err c.ask.result _ _ (λ took. take_at c.args.replicas.now c.picked-server.result (get_or c.args.replicas.now c.picked-server.result c.index-replicas-server.result) c.ask.new.replica here (ap (λ (v : View). get_or c.args.replicas.now c.picked-server.result v) c.index-replicas-server.is) took) c.ask.ensures.spared
 
 pub returns-in-Tells-clause-wear : goal.returns-in-Tells-clause-wear
 returns-in-Tells-clause-wear g c = wear_same (states_in c.args.replicas.now)

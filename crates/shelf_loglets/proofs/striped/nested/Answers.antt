@@ -1,9 +1,9 @@
-use Rattle.std.proofs.Common.{◌*◌, ◌≤◌, ◌^◌, map, All, arith, ap, subst, sym, ◌∙◌}
+use Rattle.std.proofs.Common.{◌*◌, ◌≤◌, ◌^◌, map, All, arith, ap, subst, sym, ◌∙◌, refl}
 use Rattle.loglet_api.specs.declared.call.Kind.TheVariants as kinds
-use Rattle.striped_loglet.specs.Striped.{StripedView}
+use Rattle.striped_loglet.specs.Striped.{StripedView, serving_of}
 use Rattle.striped_loglet.proofs.Places.{length_view}
 use Rattle.shelf_loglets.specs.Stripes.{IsStripe}
-use Rattle.shelf_loglets.proofs.Stripes.{views, stripe_at, same_room, small_room, all_servers, all_rounds, whole_room, kind_of_striped}
+use Rattle.shelf_loglets.proofs.Stripes.{views, stripe_at, same_room, small_room, all_servers, all_rounds, whole_room, kind_of_striped, new_striped}
 use Rattle.shelf_loglets.proofs.striped.nested.Goals as goal
 
 pub new-requires-clause-fresh : goal.new-requires-clause-fresh
@@ -35,3 +35,6 @@ returns-clause-room c = let view = λ (v : StripedView). v.loglet in let r = who
 
 pub returns-clause-stripes : goal.returns-clause-stripes
 returns-clause-stripes c = let view = λ (v : StripedView). v.loglet in subst (λ vs. All (IsStripe (kinds.Striped 2) 6 63 (2 * c.args.room)) vs) (sym c.new.ensures.stripes) (views view (kinds.Striped 2) 6 63 (2 * c.args.room) c.in_ok-stripes.stripes.items c.in_ok-stripes.ensures.stripes)
+
+pub returns-clause-serving : goal.returns-clause-serving
+returns-clause-serving c = new_striped serving_of 6 2 12 c.in_ok-stripes.stripes.items c.new.result c.in_ok-stripes.ensures.servings c.new.ensures.servings c.new.ensures.given c.in_ok-stripes.ensures.count refl

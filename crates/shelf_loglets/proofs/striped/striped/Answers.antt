@@ -1,9 +1,9 @@
 use Rattle.std.proofs.Common.{◌+◌, ◌*◌, ◌≤◌, ◌^◌, length, map, All, arith, ap, subst, sym, ◌∙◌}
 use Rattle.loglet_api.specs.declared.call.Kind.TheVariants as kinds
-use Rattle.native_loglet.specs.Natives.{NativeView}
+use Rattle.native_loglet.specs.Natives.{NativeView, serving_of as native_serving}
 use Rattle.striped_loglet.proofs.Places.{length_view}
 use Rattle.shelf_loglets.specs.Stripes.{IsStripe}
-use Rattle.shelf_loglets.proofs.Stripes.{views, stripe_at, same_room, small_room, all_servers, all_rounds, most_rounds, whole_room, kind_of_natives}
+use Rattle.shelf_loglets.proofs.Stripes.{views, stripe_at, same_room, small_room, all_servers, all_rounds, most_rounds, whole_room, kind_of_natives, new_striped}
 use Rattle.shelf_loglets.proofs.striped.striped.Goals as goal
 
 pub new-requires-clause-fresh : goal.new-requires-clause-fresh
@@ -38,3 +38,6 @@ returns-clause-room c = let view = λ (v : NativeView). v.loglet in whole_room v
 
 pub returns-clause-stripes : goal.returns-clause-stripes
 returns-clause-stripes c = let view = λ (v : NativeView). v.loglet in subst (λ vs. All (IsStripe (kinds.Native 3) 3 7 (c.args.room)) vs) (sym c.new.ensures.stripes) (views view (kinds.Native 3) 3 7 (c.args.room) c.in_ok-stripes.stripes.items c.in_ok-stripes.ensures.stripes)
+
+pub returns-clause-serving : goal.returns-clause-serving
+returns-clause-serving c = new_striped native_serving 3 c.args.count (3 * c.args.count) c.in_ok-stripes.stripes.items c.new.result c.in_ok-stripes.ensures.servings c.new.ensures.servings c.new.ensures.given c.in_ok-stripes.ensures.count (omega arith)

@@ -1,10 +1,11 @@
-use Rattle.std.proofs.Common.{◌≡◌, length, map, refl, sym, ◌∙◌, subst, arith}
+use Rattle.std.proofs.Common.{◌≡◌, length, map, inr, refl, sym, ◌∙◌, subst, arith}
+use Rattle.loglet_api.specs.declared.call.LogletAnswer.TheVariants.{Refusal, Carried}
 use Rattle.striped_loglet.specs.declared.stripe.Outcome.{Outcome}
 use Rattle.striped_loglet.specs.Plans.{heard_by}
 use Rattle.striped_loglet.specs.Calls.{Hears, HearsOf}
 use Rattle.striped_loglet.proofs.Lists.{map_set}
 use Rattle.striped_loglet.proofs.Places.{view_at, length_view}
-use Rattle.striped_loglet.proofs.Serving.{kept_set, carried_at}
+use Rattle.striped_loglet.proofs.Serving.{carried_at}
 use Rattle.striped_loglet.proofs.striped.carry_inner.Goals as goal
 
 pub returns-in-Err-clause-step : goal.returns-in-Err-clause-step
@@ -51,10 +52,10 @@ returns-in-Answered-clause-step g c =
     }
 
 pub returns-in-Err-clause-serves : goal.returns-in-Err-clause-serves
-returns-in-Err-clause-serves g c = kept_set g.L.Loglet.serving c.args.stripes.now.items c.args.inner.stripe c.index_mut.result.now c.carry_on.new.stripe c.requires.stripe c.index_mut.ensures.value c.in-Err.ensures.serves
+returns-in-Err-clause-serves g c = carried_at g.L.Loglet.serving c.args.stripes.now.items c.args.inner.stripe c.args.inner.ticket c.args.word (Refusal c.in-Err.refused) c.index_mut.result.now c.carry_on.new.stripe c.requires.stripe c.index_mut.ensures.value (inr c.in-Err.ensures.serves)
 
 pub returns-in-Going-clause-serves : goal.returns-in-Going-clause-serves
-returns-in-Going-clause-serves g c = carried_at g.L.Loglet.serving c.args.stripes.now.items c.args.inner.stripe c.args.inner.ticket c.args.word c.index_mut.result.now c.carry_on.new.stripe c.requires.stripe c.index_mut.ensures.value c.in-Ok.ensures.serves
+returns-in-Going-clause-serves g c = carried_at g.L.Loglet.serving c.args.stripes.now.items c.args.inner.stripe c.args.inner.ticket c.args.word Carried c.index_mut.result.now c.carry_on.new.stripe c.requires.stripe c.index_mut.ensures.value c.in-Ok.ensures.serves
 
 pub returns-in-Answered-clause-serves : goal.returns-in-Answered-clause-serves
-returns-in-Answered-clause-serves g c = carried_at g.L.Loglet.serving c.args.stripes.now.items c.args.inner.stripe c.args.inner.ticket c.args.word c.index_mut.result.now c.carry_on.new.stripe c.requires.stripe c.index_mut.ensures.value c.in-Ok.ensures.serves
+returns-in-Answered-clause-serves g c = carried_at g.L.Loglet.serving c.args.stripes.now.items c.args.inner.stripe c.args.inner.ticket c.args.word Carried c.index_mut.result.now c.carry_on.new.stripe c.requires.stripe c.index_mut.ensures.value c.in-Ok.ensures.serves

@@ -41,7 +41,7 @@ invariant_of-self-2 c =
     (subst (λ (l : List ℕ). IsKept bytes l room_live room_synced fs room (c.len-end.result + 1)) (sym picked)
     (subst (λ (l : List Event). IsKept bytes bytes room_live room_synced l room (c.len-end.result + 1)) (sym c.push_reserved.ensures.items) kept))
 
-now_picked : (c : goal.After-self-3-1) → timeline_of c.push_reserved.new.self.items ≡ followed c.args.self.now.timeline (at_rest (image c.args.word c.args.self.now.timeline.now))
+now_picked : (c : goal.After-self-4-1) → timeline_of c.push_reserved.new.self.items ≡ followed c.args.self.now.timeline (at_rest (image c.args.word c.args.self.now.timeline.now))
 now_picked c =
     let t : timeline_of c.self.inside.events.items ≡ c.args.self.now.timeline = ap (λ (w : DiskView). w.timeline) c.self.view_is in
     stepped c.args.self.now.timeline c.self.inside.events.items c.push_reserved.new.self.items (Reopen c.args.word) (λ m. at_rest (image c.args.word m)) c.push_reserved.ensures.items t refl

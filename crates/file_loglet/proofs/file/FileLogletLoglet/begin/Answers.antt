@@ -44,7 +44,7 @@ returns-clause-step g c =
 pub returns-then-is_full-clause-serves : goal.returns-then-is_full-clause-serves
 returns-then-is_full-clause-serves g c =
     let i = c.self.inside in
-    still_served i.room i.entries.items i.server i.marks i.pending i.entries.items c.refused-self-inside.result i.pending _ c.self.view_is (ap (λ (x : Marks). x.word) c.refused-self-inside.ensures)
+    still_served i.room i.entries.items i.server i.marks i.pending i.entries.items c.refused-self-inside.result i.pending _ c.self.view_is (ap (λ (x : Marks). x.asked) c.refused-self-inside.ensures)
 
 pub returns-in_default-clause-serves : goal.returns-in_default-clause-serves
 returns-in_default-clause-serves g c =
@@ -54,4 +54,4 @@ returns-in_default-clause-serves g c =
 pub returns-clause-serves : goal.returns-clause-serves
 returns-clause-serves g c =
     let i = c.self.inside in
-    still_served i.room i.entries.items i.server i.marks i.pending c.add.new.entries.items c.begun-marks.result c.add.new.pending _ c.self.view_is (ap (λ (x : Marks). x.word) c.begun-marks.ensures)
+    still_served i.room i.entries.items i.server i.marks i.pending c.add.new.entries.items c.begun-marks.result c.add.new.pending _ c.self.view_is (ap (λ (x : Marks). x.asked) c.begun-marks.ensures)

@@ -2,8 +2,9 @@ use Rattle.std.proofs.Common.{refl, sym, subst, arith}
 use Rattle.loglet_api.specs.Step.{Carries}
 use Rattle.file_loglet.specs.State.{state_of, loglet_of}
 use Rattle.file_loglet.specs.File.{IsDecidedAtOnce}
-use Rattle.file_loglet.proofs.Wholes.{open_whole, step_whole, alike_whole, given_whole, given_shown}
-use Rattle.file_loglet.proofs.Serving.{unmoved_served, carried_served, worn_shown}
+use Rattle.file_loglet.proofs.Wholes.{open_whole, step_whole, alike_whole, asked_whole, asked_shown}
+use Rattle.file_loglet.proofs.Laters.{stuck_may_fail}
+use Rattle.file_loglet.proofs.Serving.{stuck_served, carried_served, wore_shown, stuck_shown}
 use Rattle.file_loglet.proofs.Calls.{pending_whole, whole_tried, whole_carried, carries_whole, at_once_whole, unmoved_shown, undecided_is_open}
 use Rattle.file_loglet.proofs.file.FileLogletLoglet.carry.Goals as goal
 
@@ -35,56 +36,55 @@ decide-requires-clause-shut g c = (pending_whole _ _ _ _ _ _ c.index.result.now 
 pub invariant_of-self : goal.invariant_of-self
 invariant_of-self g c =
     whole_tried c.self.inside.room c.self.inside.entries.items c.self.inside.server c.decide.new.server c.self.inside.marks c.self.inside.pending _ c.index.result.now c.self.invariant c.index.ensures
-    (rw c.as_slice.ensures.value at c.in_default.ensures.later) c.in_default.ensures.may_fail
+    (rw c.as_slice.ensures.value at c.in_default.ensures.later) (stuck_may_fail c.self.inside.server c.decide.new.server c.in_default.ensures.wears)
 
 pub returns-in_default-clause-step : goal.returns-in_default-clause-step
 returns-in_default-clause-step g c =
     let i = c.self.inside in
-    let none = c.in_default.ensures.memory in
+    let none = c.in_default.ensures.wears in
     alike_whole i.room i.entries.items i.server i.marks i.pending i.entries.items c.decide.new.server i.marks i.pending _ _ _ c.self.view_is c.self.invariant
-    (unmoved_shown i.room i.entries.items i.server c.decide.new.server i.marks i.pending none.0 none.1 none.2) c.requires refl
+    (unmoved_shown i.room i.entries.items i.server c.decide.new.server i.marks i.pending none.0 none.1.faults c.in_default.ensures.memory) c.requires refl
 
 pub returns-in_default-clause-serves : goal.returns-in_default-clause-serves
 returns-in_default-clause-serves g c =
     let i = c.self.inside in
-    let none = c.in_default.ensures.memory in
-    unmoved_served i.room i.entries.items i.server c.decide.new.server i.marks i.pending i.pending _ c.self.view_is none.0 none.1 (λ up. c.in_default.ensures.memory_armed)
+    stuck_served i.room i.entries.items i.server c.decide.new.server i.marks i.pending i.pending _ c.args.ticket c.args.word c.self.view_is c.in_default.ensures.wears
 
 pub returns-in_default-clause-wears : goal.returns-in_default-clause-wears
 returns-in_default-clause-wears g c =
     let i = c.self.inside in
-    worn_shown i.room i.entries.items i.server c.decide.new.server i.marks i.marks i.pending i.pending _ c.self.view_is c.in_default.ensures.wears
+    stuck_shown i.room i.entries.items i.server c.decide.new.server i.marks i.pending i.pending _ c.self.view_is c.in_default.ensures.wears
 
 pub invariant_of-self-2 : goal.invariant_of-self-2
 invariant_of-self-2 g c =
     let i = c.self.inside in
-    given_whole i.room i.entries.items c.decide.new.server i.marks c.given-self-inside.result c.set_answer.new.pending c.args.word
+    asked_whole i.room i.entries.items c.decide.new.server i.marks c.carried-self-inside.result c.set_answer.new.pending _
     (whole_carried i.room i.entries.items c.as_slice.result.now i.server c.decide.new.server i.marks i.pending c.set_answer.new.pending _ c.index.result.now c.in-Ok.answer c.self.invariant c.index.ensures
-    c.as_slice.ensures.value c.in-Ok.ensures.later c.in-Ok.ensures.may_fail c.in-Ok.ensures.fits c.set_answer.ensures) c.given-self-inside.ensures
+    c.as_slice.ensures.value c.in-Ok.ensures.later c.in-Ok.ensures.wears c.in-Ok.ensures.fits c.set_answer.ensures) c.carried-self-inside.ensures
 
 pub returns-clause-step : goal.returns-clause-step
 returns-clause-step g c =
     let i = c.self.inside in
     step_whole _ _ _ _ _ _ _ _ _ _ _ _ c.self.view_is c.self.invariant (invariant_of-self-2 g c) c.requires
     (subst (Carries (loglet_of (state_of i.room i.entries.items i.server i.marks i.pending)) c.args.ticket)
-    (sym (given_shown i.room i.entries.items c.decide.new.server i.marks c.given-self-inside.result c.set_answer.new.pending c.args.word c.given-self-inside.ensures))
+    (sym (asked_shown i.room i.entries.items c.decide.new.server i.marks c.carried-self-inside.result c.set_answer.new.pending _ c.carried-self-inside.ensures))
     (carries_whole i.room i.entries.items i.server c.decide.new.server i.marks i.pending c.set_answer.new.pending _ c.args.ticket c.index.result.now c.in-Ok.answer c.self.view_is c.self.invariant
-    (rw c.number-number.ensures at c.index.ensures) (rw c.as_slice.ensures.value at c.in-Ok.ensures.later) c.in-Ok.ensures.may_fail (rw c.number-number.ensures at c.set_answer.ensures) c.requires))
+    (rw c.number-number.ensures at c.index.ensures) (rw c.as_slice.ensures.value at c.in-Ok.ensures.later) c.in-Ok.ensures.wears (rw c.number-number.ensures at c.set_answer.ensures) c.requires))
 
 pub returns-clause-serves : goal.returns-clause-serves
 returns-clause-serves g c =
     let i = c.self.inside in
-    carried_served i.room i.entries.items i.server c.decide.new.server i.marks c.given-self-inside.result i.pending c.set_answer.new.pending _ c.args.ticket c.args.word c.self.view_is c.in-Ok.ensures.wears c.given-self-inside.ensures
+    carried_served i.room i.entries.items i.server c.decide.new.server i.marks c.carried-self-inside.result i.pending c.set_answer.new.pending _ c.args.ticket c.args.word c.self.view_is c.in-Ok.ensures.wears c.carried-self-inside.ensures
 
 pub returns-clause-at_once : goal.returns-clause-at_once
 returns-clause-at_once g c =
     let i = c.self.inside in
     subst (IsDecidedAtOnce c.args.self.now.loglet c.args.ticket)
-    (sym (given_shown i.room i.entries.items c.decide.new.server i.marks c.given-self-inside.result c.set_answer.new.pending c.args.word c.given-self-inside.ensures))
+    (sym (asked_shown i.room i.entries.items c.decide.new.server i.marks c.carried-self-inside.result c.set_answer.new.pending _ c.carried-self-inside.ensures))
     (at_once_whole i.room i.entries.items i.server c.decide.new.server i.marks i.pending c.set_answer.new.pending _ c.args.ticket c.index.result.now c.in-Ok.answer c.self.view_is
-    (rw c.number-number.ensures at c.index.ensures) c.in-Ok.ensures.may_fail (rw c.number-number.ensures at c.set_answer.ensures))
+    (rw c.number-number.ensures at c.index.ensures) c.in-Ok.ensures.wears (rw c.number-number.ensures at c.set_answer.ensures))
 
 pub returns-clause-wears : goal.returns-clause-wears
 returns-clause-wears g c =
     let i = c.self.inside in
-    worn_shown i.room i.entries.items i.server c.decide.new.server i.marks c.given-self-inside.result i.pending c.set_answer.new.pending _ c.self.view_is c.in-Ok.ensures.wears
+    wore_shown i.room i.entries.items i.server c.decide.new.server i.marks c.carried-self-inside.result i.pending c.set_answer.new.pending _ c.self.view_is c.in-Ok.ensures.wears

@@ -1,51 +1,50 @@
-use Rattle.std.proofs.Common.{ap, refl}
-use Rattle.quorum_cell.specs.Servers.{Server}
+use Rattle.std.proofs.Common.{refl}
 use Rattle.file_loglet.proofs.Wholes.{step_whole, alike_whole, brought_whole, whole_same, same_shown}
-use Rattle.file_loglet.proofs.Serving.{unmoved_served, restarted_served, restarted_shown, idle_shown, is_down}
+use Rattle.file_loglet.proofs.Serving.{reopened_served, restarted_served, restarted_shown, idle_shown, is_down}
 use Rattle.file_loglet.proofs.file.FileLogletLoglet.restart.Goals as goal
 
 pub invariant_of-self : goal.invariant_of-self
 invariant_of-self g c =
     let none = c.in_default.ensures in
-    whole_same _ _ _ c.bring_up.new.server _ _ c.self.invariant none.1 none.2
+    whole_same _ _ _ c.bring_up.new.server _ _ c.self.invariant none.server none.faults
 
 pub returns-in_default-clause-step : goal.returns-in_default-clause-step
 returns-in_default-clause-step g c =
     let i = c.self.inside in
     let none = c.in_default.ensures in
     alike_whole i.room i.entries.items i.server i.marks i.pending i.entries.items c.bring_up.new.server i.marks i.pending _ _ _ c.self.view_is c.self.invariant
-    (same_shown i.room i.entries.items i.server c.bring_up.new.server i.marks i.pending none.1 none.2) c.requires refl
+    (same_shown i.room i.entries.items i.server c.bring_up.new.server i.marks i.pending none.server none.faults) c.requires refl
 
 pub returns-in_default-clause-serves : goal.returns-in_default-clause-serves
 returns-in_default-clause-serves g c =
     let i = c.self.inside in
     let none = c.in_default.ensures in
-    unmoved_served i.room i.entries.items i.server c.bring_up.new.server i.marks i.pending i.pending _ c.self.view_is (ap (λ (s : Server). s.up) none.1) none.2 (λ up. absurd (let was = none.0 in cc))
+    reopened_served i.room i.entries.items i.server c.bring_up.new.server i.marks i.pending _ c.args.server c.args.word c.self.view_is c.requires none
 
 pub invariant_of-self-2 : goal.invariant_of-self-2
-invariant_of-self-2 g c = (brought_whole _ _ _ c.bring_up.new.server _ _ _ c.args.word c.in-Ok.up c.self.invariant c.in-Ok.ensures c.given-self-inside.ensures).0
+invariant_of-self-2 g c = (brought_whole _ _ _ c.bring_up.new.server _ _ _ _ c.args.word c.in-Ok.up c.self.invariant c.in-Ok.ensures c.restarted-self-inside.ensures).0
 
 pub returns-clause-step : goal.returns-clause-step
 returns-clause-step g c =
     step_whole _ _ _ _ _ _ _ _ _ _ _ _ c.self.view_is c.self.invariant (invariant_of-self-2 g c) c.requires
-    (brought_whole _ _ _ c.bring_up.new.server _ _ _ c.args.word c.in-Ok.up c.self.invariant c.in-Ok.ensures c.given-self-inside.ensures).1
+    (brought_whole _ _ _ c.bring_up.new.server _ _ _ _ c.args.word c.in-Ok.up c.self.invariant c.in-Ok.ensures c.restarted-self-inside.ensures).1
 
 pub returns-clause-serves : goal.returns-clause-serves
 returns-clause-serves g c =
     let i = c.self.inside in
-    restarted_served i.room i.entries.items i.server c.bring_up.new.server i.marks c.given-self-inside.result i.pending _ c.args.server c.args.word c.in-Ok.up c.self.view_is c.requires c.in-Ok.ensures c.given-self-inside.ensures
+    restarted_served i.room i.entries.items i.server c.bring_up.new.server i.marks c.restarted-self-inside.result i.pending _ c.args.server c.args.word c.in-Ok.up c.self.view_is c.requires c.in-Ok.ensures c.restarted-self-inside.ensures
 
 pub returns-in_default-clause-idle : goal.returns-in_default-clause-idle
 returns-in_default-clause-idle g c up =
     let i = c.self.inside in
-    absurd (let was = is_down i.room i.entries.items i.server i.marks i.pending _ c.self.view_is c.in_default.ensures.0 in cc)
+    absurd (let was = is_down i.room i.entries.items i.server i.marks i.pending _ c.self.view_is c.in_default.ensures.was in cc)
 
 pub returns-clause-restarted : goal.returns-clause-restarted
 returns-clause-restarted g c =
     let i = c.self.inside in
-    restarted_shown i.room i.entries.items i.server c.bring_up.new.server i.marks i.pending _ c.in-Ok.up c.self.view_is c.in-Ok.ensures
+    restarted_shown i.room i.entries.items i.server c.bring_up.new.server i.marks i.pending _ c.args.word c.in-Ok.up c.self.view_is c.in-Ok.ensures
 
 pub returns-clause-idle : goal.returns-clause-idle
 returns-clause-idle g c =
     let i = c.self.inside in
-    idle_shown i.room i.entries.items i.server c.bring_up.new.server i.marks c.given-self-inside.result i.pending _ c.args.word c.bring_up.result c.self.view_is c.bring_up.ensures c.given-self-inside.ensures
+    idle_shown i.room i.entries.items i.server c.bring_up.new.server i.marks c.restarted-self-inside.result i.pending _ c.args.word c.bring_up.result c.self.view_is c.bring_up.ensures c.restarted-self-inside.ensures

@@ -4,7 +4,7 @@ use Rattle.log_server.proofs.Keeping.{held_survives, not_true}
 use Rattle.log_server.proofs.server.LogServer.is_up.Goals as goal
 
 pub returns-clause-survives : goal.returns-clause-survives
-returns-clause-survives g c = let i = c.self.inside in subst (λ (v : View). Survives v) c.self.view_is (held_survives i.held i.kept c.self.invariant)
+returns-clause-survives g c = let i = c.self.inside in subst (λ (v : View). Survives v) c.self.view_is (held_survives i.held i.kept i.stops i.restarts c.self.invariant)
 
 pub returns-clause-whole : goal.returns-clause-whole
 returns-clause-whole g c =

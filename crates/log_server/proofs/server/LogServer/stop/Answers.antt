@@ -8,7 +8,7 @@ use Rattle.log_server.proofs.server.LogServer.stop.Goals as goal
 pub returns-clause-survives : goal.returns-clause-survives
 returns-clause-survives g c =
     let i = c.self.inside in
-    held_survives i.held c.stop.new.self (record { sound = c.self.invariant.sound; kept = c.stop.ensures.kept (server_with i.held) c.self.invariant.kept })
+    held_survives i.held c.stop.new.self i.stops i.restarts (record { sound = c.self.invariant.sound; kept = c.stop.ensures.kept (server_with i.held) c.self.invariant.kept })
 
 pub returns-clause-arms : goal.returns-clause-arms
 returns-clause-arms g c =

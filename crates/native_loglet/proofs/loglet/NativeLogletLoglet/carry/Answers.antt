@@ -1,21 +1,22 @@
-use Rattle.std.proofs.Common.{◌≡◌, refl, sym, ap, subst, ◌∙◌, List, length, map}
+use Rattle.std.proofs.Common.{◌≡◌, Bool, refl, sym, ap, subst, ◌∙◌, List, length, map, Some}
 use Rattle.loglet_api.specs.declared.call.Refused.TheVariants.{Memory}
 use Rattle.loglet_api.specs.declared.call.LogletCall.TheVariants.{Carry}
 use Rattle.loglet_api.specs.declared.call.LogletAnswer.TheVariants.{Carried, Refusal}
 use Rattle.loglet_api.specs.Step.{LogletStep}
 use Rattle.log_server.specs.View.{View}
-use Rattle.native_loglet.specs.Natives.{Native, native_of, server_in, loglet_of}
+use Rattle.native_loglet.specs.Natives.{Native, native_of, server_in, look_in, loglet_of}
 use Rattle.native_loglet.proofs.Alike.{IsOwned, Alike, shows, alike_owned, step_alike, entries_spelled, entries_small}
 use Rattle.native_loglet.proofs.Messages.{can_carry}
 use Rattle.native_loglet.proofs.Disks.{lent_back}
+use Rattle.native_plan.specs.declared.pending.Pending.{Pending}
 use Rattle.native_loglet.specs.Copies.{copy_in, kept_after}
+use Rattle.native_loglet.specs.Moving.{CarriesAt}
 use Rattle.native_loglet.proofs.Wholes.{carries_whole}
-use Rattle.loglet_api.specs.Servers.{ServerState, Wear}
-use Rattle.native_loglet.specs.Natives.{NativeView, serving_of, states_in}
+use Rattle.native_loglet.specs.Natives.{NativeView}
 use Rattle.native_loglet.specs.Natives.{down_in}
 use Rattle.native_loglet.specs.Faults.{faults_after, is_failed}
 use Rattle.native_loglet.proofs.Counting.{carry_counts}
-use Rattle.native_loglet.proofs.Serving.{serving_with, states_with}
+use Rattle.native_loglet.proofs.Serving.{carried_serves, spared_serves}
 use Rattle.native_loglet.specs.Steps.{NativeStep}
 use Rattle.native_loglet.proofs.Goes.{goes_from, stays_goes, carries_goes}
 use Rattle.native_loglet.specs.Disks.{KeepDisks}
@@ -77,18 +78,16 @@ returns-clause-step g c =
 pub returns-in_default-clause-serves : goal.returns-in_default-clause-serves
 returns-in_default-clause-serves g c =
     let i = c.self.inside in
+    let a : Native = native_of i.room i.entries.items i.replicas.items i.marks i.pending.entries i.strays in
     let back = lent_back i.replicas.len i.replicas.items c.carry_keeping.new.replicas i.replicas.ok.0 (c.carry_keeping.auto.replicas ∙ ap (λ (vs : List View). length vs) c.deref_mut.ensures.value) in
-    ap (λ (vs : List View). serving_with vs i.told) back ∙ ap (λ (ss : List ServerState). states_with ss i.told) (c.in_default.ensures.spared ∙ ap states_in c.deref_mut.ensures.value) ∙ ap serving_of c.self.view_is
+    spared_serves i.told i.carried i.strayed a _ _ c.carry_keeping.new.replicas c.self.view_is back (rw c.deref_mut.ensures.value at c.in_default.ensures.spared)
 
 pub returns-clause-serves : goal.returns-clause-serves
 returns-clause-serves g c =
     let i = c.self.inside in
-    let back = lent_back i.replicas.len i.replicas.items c.carry_keeping.new.replicas i.replicas.ok.0 (c.carry_keeping.auto.replicas ∙ ap (λ (vs : List View). length vs) c.deref_mut.ensures.value) in (
-      subst (λ (vs : List View). Wear (states_in c.args.self.now.replicas) (states_in vs)) (sym back)
-          (subst (λ (x : NativeView). Wear (states_in x.replicas) (states_in c.carry_keeping.new.replicas)) c.self.view_is
-          (subst (λ (vs : List View). Wear (states_in vs) (states_in c.carry_keeping.new.replicas)) c.deref_mut.ensures.value c.in-Ok.ensures.wear)),
-      refl,
-    )
+    let a : Native = native_of i.room i.entries.items i.replicas.items i.marks i.pending.entries i.strays in
+    let back = lent_back i.replicas.len i.replicas.items c.carry_keeping.new.replicas i.replicas.ok.0 (c.carry_keeping.auto.replicas ∙ ap (λ (vs : List View). length vs) c.deref_mut.ensures.value) in
+    carried_serves i.told i.carried i.strayed a _ c.args.word _ _ c.carry_keeping.new.replicas c.self.view_is back c.one_more-self-inside.ensures (rw c.deref_mut.ensures.value at c.in-Ok.ensures.wear)
 
 pub returns-clause-counts : goal.returns-clause-counts
 returns-clause-counts g c =
@@ -138,3 +137,14 @@ returns-clause-keeps g c =
 
 pub returns-in_default-clause-spares : goal.returns-in_default-clause-spares
 returns-in_default-clause-spares g c = c.in_default.ensures.strays_stay ∙ ap (λ (x : NativeView). x.parts.strays) c.self.view_is
+
+pub returns-clause-moves : goal.returns-clause-moves
+returns-clause-moves g c =
+    let i = c.self.inside in
+    let ws = c.carry_keeping.new.replicas in
+    let back = lent_back i.replicas.len i.replicas.items ws i.replicas.ok.0 (c.carry_keeping.auto.replicas ∙ ap (λ (vs : List View). length vs) c.deref_mut.ensures.value) in
+    let carries = rw (c.number.ensures, c.deref_mut.ensures.value) at c.in-Ok.ensures.carries in
+    let failed = rw (c.number.ensures, c.deref_mut.ensures.value) at c.in-Ok.ensures.failed in
+    subst (λ (vs : List View). (p : Pending) → look_in c.args.self.now.parts.pending c.args.ticket ≡ Some p → CarriesAt c.args.self.now.parts.entries c.args.self.now.parts.marks.cut c.args.ticket c.args.word p c.args.self.now.parts.pending c.carry_keeping.new.pending.entries c.args.self.now.replicas vs (is_failed c.args.word c.args.self.now.loglet.down (down_in vs))) (sym back)
+    (subst (λ (x : NativeView). (p : Pending) → look_in x.parts.pending c.args.ticket ≡ Some p → CarriesAt x.parts.entries x.parts.marks.cut c.args.ticket c.args.word p x.parts.pending c.carry_keeping.new.pending.entries x.replicas ws (is_failed c.args.word x.loglet.down (down_in ws))) c.self.view_is
+    (λ p is. subst (λ (b : Bool). CarriesAt i.entries.items i.marks.cut c.args.ticket c.args.word p i.pending.entries c.carry_keeping.new.pending.entries i.replicas.items ws b) (failed p is) (carries p is)))

@@ -4,11 +4,12 @@ use Rattle.native_loglet.specs.Natives.{Native, native_of}
 use Rattle.native_loglet.proofs.Alike.{shows, alike_owned, step_alike, put_alike, within_servers}
 use Rattle.native_loglet.proofs.Rules.{value_or}
 use Rattle.native_loglet.proofs.Wholes.{restarts_whole}
-use Rattle.loglet_api.specs.Servers.{ServerState, ChangesAt, RestartsTo}
-use Rattle.native_loglet.specs.Natives.{NativeView, states_in, serving_of}
+use Rattle.loglet_api.specs.Servers.{RestartsTo, MayReopen}
+use Rattle.log_server.specs.View.{View}
+use Rattle.native_loglet.specs.Natives.{NativeView}
 use Rattle.std.specs.Prelude.{not}
 use Rattle.native_loglet.proofs.Counting.{marks_count}
-use Rattle.native_loglet.proofs.Serving.{changes_at, states_same, states_with}
+use Rattle.native_loglet.proofs.Serving.{put_serves}
 use Rattle.native_loglet.proofs.Goes.{goes_from, stays_goes, restarts_goes}
 use Rattle.native_loglet.specs.Disks.{KeepDisks}
 use Rattle.native_loglet.proofs.Disks.{put_disks}
@@ -39,31 +40,28 @@ invariant_of-self-2 g c =
     let i = c.self.inside in
     let a : Native = native_of i.room i.entries.items i.replicas.items i.marks i.pending.entries i.strays in
     (restarts_whole a c.after-self-inside.result _ c.args.server c.args.word c.index_mut.result.now c.restart.new.self c.in-Ok.up (shows a _ c.self.view_is) c.self.invariant (within_servers a _ c.args.server (shows a _ c.self.view_is) c.requires) c.index_mut.ensures.value
-    (λ u. (let y = c.in-Ok.ensures.up u in (ap (value_or false) y.0, y.1))) (λ u. c.in-Ok.ensures.restarted (ap (λ x. Ok x) u)) (λ u. c.in-Ok.ensures.failed (ap (λ x. Ok x) u)) c.after-self-inside.ensures).0
+    (λ u. (let y = c.in-Ok.ensures.up u in (ap (value_or false) y.0, ap (λ (v : View). v.server) y.1))) (λ u. c.in-Ok.ensures.restarted (ap (λ x. Ok x) u)) (λ u. c.in-Ok.ensures.failed (ap (λ x. Ok x) u)) c.after-self-inside.ensures).0
 
 pub returns-clause-step : goal.returns-clause-step
 returns-clause-step g c =
     let i = c.self.inside in
     let a : Native = native_of i.room i.entries.items i.replicas.items i.marks i.pending.entries i.strays in
     (restarts_whole a c.after-self-inside.result _ c.args.server c.args.word c.index_mut.result.now c.restart.new.self c.in-Ok.up (shows a _ c.self.view_is) c.self.invariant (within_servers a _ c.args.server (shows a _ c.self.view_is) c.requires) c.index_mut.ensures.value
-    (λ u. (let y = c.in-Ok.ensures.up u in (ap (value_or false) y.0, y.1))) (λ u. c.in-Ok.ensures.restarted (ap (λ x. Ok x) u)) (λ u. c.in-Ok.ensures.failed (ap (λ x. Ok x) u)) c.after-self-inside.ensures).1
+    (λ u. (let y = c.in-Ok.ensures.up u in (ap (value_or false) y.0, ap (λ (v : View). v.server) y.1))) (λ u. c.in-Ok.ensures.restarted (ap (λ x. Ok x) u)) (λ u. c.in-Ok.ensures.failed (ap (λ x. Ok x) u)) c.after-self-inside.ensures).1
 
 pub returns-in_default-clause-serves : goal.returns-in_default-clause-serves
 returns-in_default-clause-serves g c =
     let i = c.self.inside in
     let a : Native = native_of i.room i.entries.items i.replicas.items i.marks i.pending.entries i.strays in
     let here = within_servers a _ c.args.server (shows a _ c.self.view_is) c.requires in
-    ap (λ (ss : List ServerState). states_with ss i.told) (states_same i.replicas.items c.args.server c.index_mut.result.now c.restart.new.self here c.index_mut.ensures.value c.in_default.ensures.spared) ∙ ap serving_of c.self.view_is
+    put_serves i.told i.carried i.strayed (MayReopen c.args.word) a _ c.args.server c.index_mut.result.now c.restart.new.self c.self.view_is here c.index_mut.ensures.value c.in_default.ensures.spared
 
 pub returns-clause-serves : goal.returns-clause-serves
 returns-clause-serves g c =
     let i = c.self.inside in
     let a : Native = native_of i.room i.entries.items i.replicas.items i.marks i.pending.entries i.strays in
-    let here = within_servers a _ c.args.server (shows a _ c.self.view_is) c.requires in (
-      subst (λ (x : NativeView). ChangesAt (RestartsTo c.in-Ok.up) c.args.server (states_in x.replicas) (states_in (set i.replicas.items c.args.server c.restart.new.self))) c.self.view_is
-          (changes_at (RestartsTo c.in-Ok.up) i.replicas.items c.args.server c.index_mut.result.now c.restart.new.self here c.index_mut.ensures.value c.in-Ok.ensures.rises),
-      refl,
-    )
+    let here = within_servers a _ c.args.server (shows a _ c.self.view_is) c.requires in
+    put_serves i.told i.carried i.strayed (RestartsTo c.args.word c.in-Ok.up) a _ c.args.server c.index_mut.result.now c.restart.new.self c.self.view_is here c.index_mut.ensures.value c.in-Ok.ensures.rises
 
 pub returns-clause-counts : goal.returns-clause-counts
 returns-clause-counts g c =
@@ -85,7 +83,7 @@ returns-clause-goes g c =
     let a : Native = native_of i.room i.entries.items i.replicas.items i.marks i.pending.entries i.strays in
     let here = within_servers a _ c.args.server (shows a _ c.self.view_is) c.requires in
     goes_from a _ _ _ _ c.self.view_is c.requires (λ can. restarts_goes a c.after-self-inside.result c.args.server c.args.word c.index_mut.result.now c.restart.new.self c.in-Ok.up c.self.invariant here c.index_mut.ensures.value
-    (λ u. (let y = c.in-Ok.ensures.up u in (ap (value_or false) y.0, y.1))) (λ u. c.in-Ok.ensures.restarted (ap (λ x. Ok x) u)) (λ u. c.in-Ok.ensures.failed (ap (λ x. Ok x) u)) c.after-self-inside.ensures)
+    (λ u. (let y = c.in-Ok.ensures.up u in (ap (value_or false) y.0, ap (λ (v : View). v.server) y.1))) (λ u. c.in-Ok.ensures.restarted (ap (λ x. Ok x) u)) (λ u. c.in-Ok.ensures.failed (ap (λ x. Ok x) u)) c.after-self-inside.ensures)
 
 pub returns-in_default-clause-disks : goal.returns-in_default-clause-disks
 returns-in_default-clause-disks g c =

@@ -1,21 +1,21 @@
 use Rattle.std.proofs.Common.{◌≡◌, ◌∙◌, refl, sym, ap, subst, List, length, map}
-use Rattle.std.specs.Prelude.{nat_lt}
+use Rattle.std.specs.Prelude.{◌%◌, nat_lt, slice_get}
 use Rattle.loglet_api.specs.declared.call.Refused.TheVariants.{Memory}
 use Rattle.loglet_api.specs.declared.call.LogletCall.TheVariants.{Stray}
 use Rattle.loglet_api.specs.declared.call.LogletAnswer.TheVariants.{Strayed, Refusal}
-use Rattle.loglet_api.specs.Servers.{ServerState, Wear}
 use Rattle.loglet_api.specs.Step.{LogletStep}
 use Rattle.loglet_api.specs.View.{LogletView}
 use Rattle.log_server.specs.View.{View}
 use Rattle.native_loglet.specs.declared.marks.Marks.{Marks}
 use Rattle.native_loglet.specs.Disks.{KeepDisks}
+use Rattle.native_loglet.specs.Copies.{ComesAgain}
 use Rattle.native_loglet.specs.Faults.{faults_after}
-use Rattle.native_loglet.specs.Natives.{Native, NativeView, native_of, server_in, serving_of, states_in, down_in, loglet_of}
+use Rattle.native_loglet.specs.Natives.{Native, NativeView, native_of, server_in, down_in, loglet_of}
 use Rattle.native_loglet.specs.Steps.{NativeStep}
 use Rattle.native_loglet.proofs.Alike.{IsOwned, Alike, shows, alike_owned, step_alike}
 use Rattle.native_loglet.proofs.Counting.{marks_count}
 use Rattle.native_loglet.proofs.Disks.{lent_back}
-use Rattle.native_loglet.proofs.Serving.{serving_with, states_with, comes_wear}
+use Rattle.native_loglet.proofs.Serving.{strayed_serves, spared_serves, comes_wear}
 use Rattle.native_loglet.proofs.Strays.{can_come, can_hear, strays_owned}
 use Rattle.native_loglet.proofs.Goes.{goes_from, stays_goes, strays_goes}
 use Rattle.native_loglet.proofs.loglet.NativeLogletLoglet.stray.Goals as goal
@@ -54,8 +54,9 @@ returns-in_default-clause-step g c =
 pub returns-in_default-clause-serves : goal.returns-in_default-clause-serves
 returns-in_default-clause-serves g c =
     let i = c.self.inside in
+    let a : Native = native_of i.room i.entries.items i.replicas.items i.marks i.pending.entries i.strays in
     let back = lent_back i.replicas.len i.replicas.items c.count_stray.new.replicas i.replicas.ok.0 (c.count_stray.auto.replicas ∙ ap (λ (vs : List View). length vs) c.deref_mut.ensures.value) in
-    ap (λ (vs : List View). serving_with vs i.told) back ∙ ap (λ (ss : List ServerState). states_with ss i.told) (c.in_default.ensures.spared ∙ ap states_in c.deref_mut.ensures.value) ∙ ap serving_of c.self.view_is
+    spared_serves i.told i.carried i.strayed a _ _ c.count_stray.new.replicas c.self.view_is back (rw c.deref_mut.ensures.value at c.in_default.ensures.spared)
 
 pub returns-in_default-clause-goes : goal.returns-in_default-clause-goes
 returns-in_default-clause-goes g c =
@@ -95,12 +96,10 @@ returns-clause-step g c =
 pub returns-clause-serves : goal.returns-clause-serves
 returns-clause-serves g c =
     let i = c.self.inside in
-    let back = lent_back i.replicas.len i.replicas.items c.count_stray.new.replicas i.replicas.ok.0 (c.count_stray.auto.replicas ∙ ap (λ (vs : List View). length vs) c.deref_mut.ensures.value) in (
-      subst (λ (vs : List View). Wear (states_in c.args.self.now.replicas) (states_in vs)) (sym back)
-          (subst (λ (x : NativeView). Wear (states_in x.replicas) (states_in c.count_stray.new.replicas)) c.self.view_is
-          (comes_wear i.marks.cut _ i.pending.entries c.count_stray.new.pending.entries i.replicas.items c.count_stray.new.replicas _ (rw c.deref_mut.ensures.value at c.in-Ok.ensures.comes))),
-      refl,
-    )
+    let a : Native = native_of i.room i.entries.items i.replicas.items i.marks i.pending.entries i.strays in
+    let back = lent_back i.replicas.len i.replicas.items c.count_stray.new.replicas i.replicas.ok.0 (c.count_stray.auto.replicas ∙ ap (λ (vs : List View). length vs) c.deref_mut.ensures.value) in
+    strayed_serves i.told i.carried i.strayed a _ c.args.word _ _ c.count_stray.new.replicas c.self.view_is back c.one_more-self-inside.ensures
+    (comes_wear i.marks.cut _ i.pending.entries c.count_stray.new.pending.entries i.replicas.items c.count_stray.new.replicas _ (rw c.deref_mut.ensures.value at c.in-Ok.ensures.comes))
 
 pub returns-clause-goes : goal.returns-clause-goes
 returns-clause-goes g c =
@@ -131,3 +130,11 @@ returns-clause-disks g c =
     let back = lent_back i.replicas.len i.replicas.items c.count_stray.new.replicas i.replicas.ok.0 (c.count_stray.auto.replicas ∙ ap (λ (vs : List View). length vs) c.deref_mut.ensures.value) in
     subst (λ (vs : List View). KeepDisks c.args.self.now.replicas vs) (sym back)
     (subst (λ (x : NativeView). KeepDisks x.replicas c.count_stray.new.replicas) c.self.view_is (subst (λ (vs : List View). KeepDisks vs c.count_stray.new.replicas) c.deref_mut.ensures.value c.count_stray.ensures.disks))
+
+pub returns-clause-comes : goal.returns-clause-comes
+returns-clause-comes g c =
+    let i = c.self.inside in
+    let ws = c.count_stray.new.replicas in
+    let back = lent_back i.replicas.len i.replicas.items ws i.replicas.ok.0 (c.count_stray.auto.replicas ∙ ap (λ (vs : List View). length vs) c.deref_mut.ensures.value) in
+    subst (λ (vs : List View). ComesAgain c.args.self.now.parts.marks.cut (slice_get c.args.self.now.parts.strays (c.args.word % length c.args.self.now.parts.strays)) c.args.self.now.parts.pending c.count_stray.new.pending.entries c.args.self.now.replicas vs (nat_lt c.args.self.now.loglet.down (down_in vs))) (sym back)
+    (subst (λ (x : NativeView). ComesAgain x.parts.marks.cut (slice_get x.parts.strays (c.args.word % length x.parts.strays)) x.parts.pending c.count_stray.new.pending.entries x.replicas ws (nat_lt x.loglet.down (down_in ws))) c.self.view_is (rw c.deref_mut.ensures.value at c.in-Ok.ensures.comes))

@@ -8,6 +8,8 @@ use Rattle.striped_loglet.specs.Striped.{StripedView}
 use Rattle.striped_loglet.proofs.Bridge.{step_whole, step_alike, shows}
 use Rattle.striped_loglet.proofs.Begins.{begun_whole, unbegun, noted, refused_whole, marks_small, reordered_state}
 use Rattle.striped_loglet.proofs.Serving.{same_served}
+use Rattle.striped_loglet.specs.declared.marks.Marks.{Marks}
+use Rattle.striped_loglet.proofs.Works.{begun_works, full_works, unbegun_works}
 use Rattle.striped_loglet.proofs.Handing.{same_from}
 use Rattle.striped_loglet.proofs.striped.StripedLogletLoglet.begin.Goals as goal
 
@@ -78,19 +80,41 @@ returns-clause-step g c =
 pub returns-then-is_full-clause-serves : goal.returns-then-is_full-clause-serves
 returns-then-is_full-clause-serves g c =
     let i = c.self.inside in
-    same_from g.L.Loglet.view g.L.Loglet.serving i.shape i.stripes.items i.marks i.pending i.told _ _ c.self.view_is refl
+    same_from g.L.Loglet.view g.L.Loglet.serving i.shape i.stripes.items i.marks i.pending i.given _ _ c.self.view_is refl
 
 pub returns-in_default-clause-serves : goal.returns-in_default-clause-serves
 returns-in_default-clause-serves g c =
     let i = c.self.inside in
-    same_from g.L.Loglet.view g.L.Loglet.serving i.shape i.stripes.items i.marks i.pending i.told _ _ c.self.view_is refl
+    same_from g.L.Loglet.view g.L.Loglet.serving i.shape i.stripes.items i.marks i.pending i.given _ _ c.self.view_is refl
 
 pub returns-in_default-start-clause-serves : goal.returns-in_default-start-clause-serves
 returns-in_default-start-clause-serves g c =
     let i = c.self.inside in
-    same_from g.L.Loglet.view g.L.Loglet.serving i.shape i.stripes.items i.marks i.pending i.told _ _ c.self.view_is (same_served (map g.L.Loglet.serving i.stripes.items) (map g.L.Loglet.serving c.start.new.stripes.items) i.told c.in_default-start.ensures.serves)
+    same_from g.L.Loglet.view g.L.Loglet.serving i.shape i.stripes.items i.marks i.pending i.given _ _ c.self.view_is (same_served (map g.L.Loglet.serving i.stripes.items) (map g.L.Loglet.serving c.start.new.stripes.items) i.given c.in_default-start.ensures.serves)
 
 pub returns-clause-serves : goal.returns-clause-serves
 returns-clause-serves g c =
     let i = c.self.inside in
-    same_from g.L.Loglet.view g.L.Loglet.serving i.shape i.stripes.items i.marks i.pending i.told _ _ c.self.view_is (same_served (map g.L.Loglet.serving i.stripes.items) (map g.L.Loglet.serving c.start.new.stripes.items) i.told c.in-Ok-start.ensures.serves)
+    same_from g.L.Loglet.view g.L.Loglet.serving i.shape i.stripes.items i.marks i.pending i.given _ _ c.self.view_is (same_served (map g.L.Loglet.serving i.stripes.items) (map g.L.Loglet.serving c.start.new.stripes.items) i.given c.in-Ok-start.ensures.serves)
+
+pub returns-then-is_full-clause-stripe : goal.returns-then-is_full-clause-stripe
+returns-then-is_full-clause-stripe g c =
+    let i = c.self.inside in
+    full_works g.L.Loglet.view g.L.Loglet.serving i.shape i.stripes.items i.marks c.refused-self-inside.result i.pending i.given _ c.args.op c.self.view_is c.refused-self-inside.ensures
+
+pub returns-in_default-clause-stripe : goal.returns-in_default-clause-stripe
+returns-in_default-clause-stripe g c =
+    let i = c.self.inside in
+    unbegun_works g.L.Loglet.view g.L.Loglet.serving i.shape i.stripes.items i.stripes.items i.marks i.pending c.reserve.new.self i.given _ c.self.view_is (reordered_state g.L.Loglet.view i.shape i.stripes.items i.marks i.pending c.reserve.new.self c.reserve.ensures.entries.2) refl
+
+pub returns-in_default-start-clause-stripe : goal.returns-in_default-start-clause-stripe
+returns-in_default-start-clause-stripe g c =
+    let i = c.self.inside in
+    unbegun_works g.L.Loglet.view g.L.Loglet.serving i.shape i.stripes.items c.start.new.stripes.items i.marks i.pending c.reserve.new.self i.given _ c.self.view_is
+    (unbegun g.L.Loglet.view i.shape i.stripes.items c.start.new.stripes.items i.marks i.pending c.reserve.new.self c.args.op _ c.self.invariant.0 (λ full. (let t = c.if-is_full.ensures.1 full in cc)) c.reserve.ensures.entries.2 c.in_default-start.ensures.step)
+    c.in_default-start.ensures.serves
+
+pub returns-clause-stripe : goal.returns-clause-stripe
+returns-clause-stripe g c =
+    let i = c.self.inside in
+    begun_works g.L.Loglet.view g.L.Loglet.serving i.shape i.stripes.items c.start.new.stripes.items i.marks c.begun-marks.result i.pending c.put.new.pending i.given _ c.args.op c.in-Ok-start.inner c.self.view_is c.self.invariant.0 c.in-Ok-start.ensures.step c.in-Ok-start.ensures.serves (ap (λ (z : Marks). z.refusals) c.begun-marks.ensures)

@@ -1,14 +1,14 @@
-use Rattle.std.proofs.Common.{List, length, map, inl, ap, ◌∙◌, arith}
+use Rattle.std.proofs.Common.{List, length, map, inl, Ok, Err, refl, ap, ◌∙◌, arith}
 use Rattle.loglet_api.specs.declared.call.LogletCall.TheVariants.{Carry}
-use Rattle.loglet_api.specs.declared.call.LogletAnswer.TheVariants.{Carried}
+use Rattle.loglet_api.specs.declared.call.LogletAnswer.TheVariants.{Refusal, Carried}
 use Rattle.loglet_api.specs.Servers.{ServersView}
 use Rattle.striped_loglet.specs.Servings.{states_of}
 use Rattle.striped_loglet.specs.declared.pending.Course.{Course}
 use Rattle.striped_loglet.proofs.Places.{length_view}
 use Rattle.striped_loglet.proofs.Bridge.{undecided_there, undecided_none, next_whole, size_whole, step_whole, waits_next, course_of}
 use Rattle.striped_loglet.proofs.Wholes.{inner_open, inner_done, refused_inner, next_carried, refused_next}
-use Rattle.striped_loglet.proofs.Serving.{served, same_served, carry_served, carry_length}
-use Rattle.striped_loglet.proofs.Handing.{serves_from, same_from, same_handed, carry_handed}
+use Rattle.striped_loglet.proofs.Serving.{served, carry_served, carry_length}
+use Rattle.striped_loglet.proofs.Handing.{serves_from, carry_handed, same_handed, refusals_from}
 use Rattle.striped_loglet.proofs.striped.StripedLogletLoglet.carry.Goals as goal
 
 pub index-requires : goal.index-requires
@@ -74,7 +74,7 @@ invariant_of-self g c =
     let none = undecided_none view g.L.Loglet.serving i.shape i.stripes.items i.marks i.pending _ c.args.ticket c.index-2.result.now c.self.view_is c.self.invariant.0 c.requires at in
     let course = course_of view i.pending c.number-number.result c.index.result.now c.index-2.result.now c.course-course.result c.index.ensures c.index-2.ensures c.course-course.ensures in
     let all = inner_done view i.shape i.stripes.items c.carry_inner.new.stripes.items i.marks i.pending c.carry_inner.new.pending c.args.ticket c.args.word c.index-2.result.now c.course-course.result c.in-Some.inner c.self.invariant.0 at none c.in-Some.is course (rw c.number-number.ensures at c.in-Ok.ensures.step) in
-    (all.0, carry_length (map g.L.Loglet.serving i.stripes.items) (map g.L.Loglet.serving c.carry_inner.new.stripes.items) c.in-Some.inner.stripe c.in-Some.inner.ticket c.args.word c.in-Ok.ensures.serves ∙ c.self.invariant.1)
+    (all.0, carry_length {A = Unit {0}} (map g.L.Loglet.serving i.stripes.items) (map g.L.Loglet.serving c.carry_inner.new.stripes.items) c.in-Some.inner.stripe c.in-Some.inner.ticket c.args.word (Ok tt) c.in-Ok.ensures.serves ∙ c.self.invariant.1)
 
 pub returns-in-Ok-clause-step : goal.returns-in-Ok-clause-step
 returns-in-Ok-clause-step g c =
@@ -90,21 +90,21 @@ pub returns-in-Ok-clause-serves : goal.returns-in-Ok-clause-serves
 returns-in-Ok-clause-serves g c =
     let i = c.self.inside in
     let view = g.L.Loglet.view in
-    serves_from view g.L.Loglet.serving i.shape i.stripes.items i.marks i.pending i.told _ (Carry c.args.ticket c.args.word) Carried (served (map g.L.Loglet.serving c.carry_inner.new.stripes.items) c.args.word) c.self.view_is
-    (carry_served (map g.L.Loglet.serving i.stripes.items) (map g.L.Loglet.serving c.carry_inner.new.stripes.items) c.in-Some.inner.stripe c.in-Some.inner.ticket c.args.ticket c.args.word i.told c.in-Ok.ensures.serves)
+    serves_from view g.L.Loglet.serving i.shape i.stripes.items i.marks i.pending i.given _ (Carry c.args.ticket c.args.word) Carried (served (map g.L.Loglet.serving c.carry_inner.new.stripes.items) c.carried-self-inside.result) c.self.view_is
+    (carry_served {A = Unit {0}} (map g.L.Loglet.serving i.stripes.items) (map g.L.Loglet.serving c.carry_inner.new.stripes.items) c.in-Some.inner.stripe c.in-Some.inner.ticket c.args.ticket c.args.word i.given c.carried-self-inside.result (Ok tt) c.carried-self-inside.ensures c.in-Ok.ensures.serves)
 
 pub returns-in-Ok-clause-handed : goal.returns-in-Ok-clause-handed
 returns-in-Ok-clause-handed g c =
     let i = c.self.inside in
     let view = g.L.Loglet.view in
-    carry_handed view g.L.Loglet.serving i.shape i.stripes.items i.marks i.pending i.told _ c.in-Some.inner.stripe c.in-Some.inner.ticket c.args.word _ c.self.view_is c.in-Ok.ensures.serves
+    carry_handed view g.L.Loglet.serving i.shape i.stripes.items i.marks i.pending i.given _ c.in-Some.inner.stripe c.in-Some.inner.ticket c.args.word Carried _ c.self.view_is c.in-Ok.ensures.serves
 
 pub invariant_of-self-in-Err : goal.invariant_of-self-in-Err
 invariant_of-self-in-Err g c =
     let i = c.self.inside in
     let view = g.L.Loglet.view in
     let all = refused_inner view i.shape i.stripes.items c.carry_inner.new.stripes.items i.marks i.pending c.carry_inner.new.pending c.args.ticket c.args.word c.in-Some.inner c.in-Err.refused c.self.invariant.0 c.in-Err.ensures.step in
-    (all.0, ap (λ (vs : List ServersView). length (states_of vs)) c.in-Err.ensures.serves ∙ c.self.invariant.1)
+    (all.0, carry_length {A = Unit {0}} (map g.L.Loglet.serving i.stripes.items) (map g.L.Loglet.serving c.carry_inner.new.stripes.items) c.in-Some.inner.stripe c.in-Some.inner.ticket c.args.word (Err c.in-Err.refused) c.in-Err.ensures.serves ∙ c.self.invariant.1)
 
 pub returns-in-Err-clause-step : goal.returns-in-Err-clause-step
 returns-in-Err-clause-step g c =
@@ -117,14 +117,14 @@ pub returns-in-Err-clause-serves : goal.returns-in-Err-clause-serves
 returns-in-Err-clause-serves g c =
     let i = c.self.inside in
     let view = g.L.Loglet.view in
-    same_from view g.L.Loglet.serving i.shape i.stripes.items i.marks i.pending i.told _ _ c.self.view_is
-    (same_served (map g.L.Loglet.serving i.stripes.items) (map g.L.Loglet.serving c.carry_inner.new.stripes.items) i.told c.in-Err.ensures.serves)
+    serves_from view g.L.Loglet.serving i.shape i.stripes.items i.marks i.pending i.given _ (Carry c.args.ticket c.args.word) (Refusal c.in-Err.refused) (served (map g.L.Loglet.serving c.carry_inner.new.stripes.items) i.given) c.self.view_is
+    (carry_served {A = Unit {0}} (map g.L.Loglet.serving i.stripes.items) (map g.L.Loglet.serving c.carry_inner.new.stripes.items) c.in-Some.inner.stripe c.in-Some.inner.ticket c.args.ticket c.args.word i.given i.given (Err c.in-Err.refused) refl c.in-Err.ensures.serves)
 
 pub returns-in-Err-clause-handed : goal.returns-in-Err-clause-handed
 returns-in-Err-clause-handed g c =
     let i = c.self.inside in
     let view = g.L.Loglet.view in
-    same_handed view g.L.Loglet.serving i.shape i.stripes.items i.marks i.pending i.told _ _ c.self.view_is c.in-Err.ensures.serves
+    carry_handed view g.L.Loglet.serving i.shape i.stripes.items i.marks i.pending i.given _ c.in-Some.inner.stripe c.in-Some.inner.ticket c.args.word (Refusal c.in-Err.refused) _ c.self.view_is c.in-Err.ensures.serves
 
 pub invariant_of-self-in-Ok-begin_next : goal.invariant_of-self-in-Ok-begin_next
 invariant_of-self-in-Ok-begin_next g c =
@@ -150,14 +150,14 @@ pub returns-in-Ok-begin_next-clause-serves : goal.returns-in-Ok-begin_next-claus
 returns-in-Ok-begin_next-clause-serves g c =
     let i = c.self.inside in
     let view = g.L.Loglet.view in
-    serves_from view g.L.Loglet.serving i.shape i.stripes.items i.marks i.pending i.told _ (Carry c.args.ticket c.args.word) Carried (served (map g.L.Loglet.serving c.begin_next.new.stripes.items) c.args.word) c.self.view_is
-    (carry_served (map g.L.Loglet.serving i.stripes.items) (map g.L.Loglet.serving c.begin_next.new.stripes.items) 0 0 c.args.ticket c.args.word i.told (inl c.in-Ok-begin_next.ensures.serves))
+    serves_from view g.L.Loglet.serving i.shape i.stripes.items i.marks i.pending i.given _ (Carry c.args.ticket c.args.word) Carried (served (map g.L.Loglet.serving c.begin_next.new.stripes.items) c.carried-self-inside-in-Ok-begin_next.result) c.self.view_is
+    (carry_served {A = Unit {0}} (map g.L.Loglet.serving i.stripes.items) (map g.L.Loglet.serving c.begin_next.new.stripes.items) 0 0 c.args.ticket c.args.word i.given c.carried-self-inside-in-Ok-begin_next.result (Ok tt) c.carried-self-inside-in-Ok-begin_next.ensures (inl c.in-Ok-begin_next.ensures.serves))
 
 pub returns-in-Ok-begin_next-clause-handed : goal.returns-in-Ok-begin_next-clause-handed
 returns-in-Ok-begin_next-clause-handed g c =
     let i = c.self.inside in
     let view = g.L.Loglet.view in
-    inl (same_handed view g.L.Loglet.serving i.shape i.stripes.items i.marks i.pending i.told _ _ c.self.view_is c.in-Ok-begin_next.ensures.serves)
+    inl (same_handed view g.L.Loglet.serving i.shape i.stripes.items i.marks i.pending i.given _ _ c.self.view_is c.in-Ok-begin_next.ensures.serves)
 
 pub invariant_of-self-in-Err-begin_next : goal.invariant_of-self-in-Err-begin_next
 invariant_of-self-in-Err-begin_next g c =
@@ -183,11 +183,23 @@ pub returns-in-Err-begin_next-clause-serves : goal.returns-in-Err-begin_next-cla
 returns-in-Err-begin_next-clause-serves g c =
     let i = c.self.inside in
     let view = g.L.Loglet.view in
-    same_from view g.L.Loglet.serving i.shape i.stripes.items i.marks i.pending i.told _ _ c.self.view_is
-    (same_served (map g.L.Loglet.serving i.stripes.items) (map g.L.Loglet.serving c.begin_next.new.stripes.items) i.told c.in-Err-begin_next.ensures.serves)
+    serves_from view g.L.Loglet.serving i.shape i.stripes.items i.marks i.pending i.given _ (Carry c.args.ticket c.args.word) (Refusal c.in-Err-begin_next.refused) (served (map g.L.Loglet.serving c.begin_next.new.stripes.items) i.given) c.self.view_is
+    (carry_served {A = Unit {0}} (map g.L.Loglet.serving i.stripes.items) (map g.L.Loglet.serving c.begin_next.new.stripes.items) 0 0 c.args.ticket c.args.word i.given i.given (Err c.in-Err-begin_next.refused) refl (inl c.in-Err-begin_next.ensures.serves))
 
 pub returns-in-Err-begin_next-clause-handed : goal.returns-in-Err-begin_next-clause-handed
 returns-in-Err-begin_next-clause-handed g c =
     let i = c.self.inside in
     let view = g.L.Loglet.view in
-    same_handed view g.L.Loglet.serving i.shape i.stripes.items i.marks i.pending i.told _ _ c.self.view_is c.in-Err-begin_next.ensures.serves
+    inl (same_handed view g.L.Loglet.serving i.shape i.stripes.items i.marks i.pending i.given _ _ c.self.view_is c.in-Err-begin_next.ensures.serves)
+
+pub returns-in-Ok-clause-refusals : goal.returns-in-Ok-clause-refusals
+returns-in-Ok-clause-refusals g c = let i = c.self.inside in refusals_from g.L.Loglet.view g.L.Loglet.serving i.shape i.stripes.items i.marks i.pending i.given _ c.self.view_is
+
+pub returns-in-Err-clause-refusals : goal.returns-in-Err-clause-refusals
+returns-in-Err-clause-refusals g c = let i = c.self.inside in refusals_from g.L.Loglet.view g.L.Loglet.serving i.shape i.stripes.items i.marks i.pending i.given _ c.self.view_is
+
+pub returns-in-Ok-begin_next-clause-refusals : goal.returns-in-Ok-begin_next-clause-refusals
+returns-in-Ok-begin_next-clause-refusals g c = let i = c.self.inside in refusals_from g.L.Loglet.view g.L.Loglet.serving i.shape i.stripes.items i.marks i.pending i.given _ c.self.view_is
+
+pub returns-in-Err-begin_next-clause-refusals : goal.returns-in-Err-begin_next-clause-refusals
+returns-in-Err-begin_next-clause-refusals g c = let i = c.self.inside in refusals_from g.L.Loglet.view g.L.Loglet.serving i.shape i.stripes.items i.marks i.pending i.given _ c.self.view_is

@@ -5,6 +5,7 @@ use Rattle.striped_loglet.proofs.Places.{got_at, view_at}
 use Rattle.striped_loglet.proofs.Bridge.{open_there, step_whole}
 use Rattle.striped_loglet.proofs.Wholes.{inner_open, forgotten_none, forgotten_some}
 use Rattle.striped_loglet.proofs.Serving.{kept_set, same_served}
+use Rattle.striped_loglet.proofs.Works.{rest_kept}
 use Rattle.striped_loglet.proofs.Handing.{same_from}
 use Rattle.striped_loglet.proofs.striped.StripedLogletLoglet.forget.Goals as goal
 
@@ -59,10 +60,22 @@ pub returns-in-Some-clause-serves : goal.returns-in-Some-clause-serves
 returns-in-Some-clause-serves g c =
     let i = c.self.inside in
     let at = inner_open g.L.Loglet.view i.shape i.stripes.items i.marks i.pending c.number-number.result c.index.result.now c.in-Some.inner c.self.invariant.0 c.index.ensures c.in-Some.is in
-    same_from g.L.Loglet.view g.L.Loglet.serving i.shape i.stripes.items i.marks i.pending i.told _ _ c.self.view_is
-    (same_served (map g.L.Loglet.serving i.stripes.items) (map g.L.Loglet.serving (set i.stripes.items c.in-Some.inner.stripe c.forget.new.self)) i.told (kept_set g.L.Loglet.serving i.stripes.items c.in-Some.inner.stripe c.index_mut.result.now c.forget.new.self at.0 c.index_mut.ensures.value c.forget.ensures.serves))
+    same_from g.L.Loglet.view g.L.Loglet.serving i.shape i.stripes.items i.marks i.pending i.given _ _ c.self.view_is
+    (same_served (map g.L.Loglet.serving i.stripes.items) (map g.L.Loglet.serving (set i.stripes.items c.in-Some.inner.stripe c.forget.new.self)) i.given (kept_set g.L.Loglet.serving i.stripes.items c.in-Some.inner.stripe c.index_mut.result.now c.forget.new.self at.0 c.index_mut.ensures.value c.forget.ensures.serves))
 
 pub returns-clause-serves : goal.returns-clause-serves
 returns-clause-serves g c =
     let i = c.self.inside in
-    same_from g.L.Loglet.view g.L.Loglet.serving i.shape i.stripes.items i.marks i.pending i.told _ _ c.self.view_is refl
+    same_from g.L.Loglet.view g.L.Loglet.serving i.shape i.stripes.items i.marks i.pending i.given _ _ c.self.view_is refl
+
+pub returns-in-Some-clause-rest : goal.returns-in-Some-clause-rest
+returns-in-Some-clause-rest g c =
+    let i = c.self.inside in
+    let at = inner_open g.L.Loglet.view i.shape i.stripes.items i.marks i.pending c.number-number.result c.index.result.now c.in-Some.inner c.self.invariant.0 c.index.ensures c.in-Some.is in
+    rest_kept g.L.Loglet.view g.L.Loglet.serving i.shape i.stripes.items (set i.stripes.items c.in-Some.inner.stripe c.forget.new.self) i.marks i.marks i.pending c.remove.new.self i.given _ c.self.view_is
+    (kept_set g.L.Loglet.serving i.stripes.items c.in-Some.inner.stripe c.index_mut.result.now c.forget.new.self at.0 c.index_mut.ensures.value c.forget.ensures.serves) refl
+
+pub returns-clause-rest : goal.returns-clause-rest
+returns-clause-rest g c =
+    let i = c.self.inside in
+    rest_kept g.L.Loglet.view g.L.Loglet.serving i.shape i.stripes.items i.stripes.items i.marks i.marks i.pending c.remove-2.new.self i.given _ c.self.view_is refl refl

@@ -5,6 +5,7 @@ use Rattle.loglet_api.specs.declared.call.LogletAnswer.TheVariants.{Stopped}
 use Rattle.striped_loglet.proofs.Bridge.{step_alike, shows}
 use Rattle.striped_loglet.proofs.Wholes.{stop_whole, server_there, server_below, server_of_all, server_called}
 use Rattle.striped_loglet.proofs.Serving.{served, stop_served, stop_length}
+use Rattle.striped_loglet.proofs.Works.{rest_called}
 use Rattle.striped_loglet.proofs.Handing.{serves_from, server_handed}
 use Rattle.striped_loglet.proofs.striped.StripedLogletLoglet.stop.Goals as goal
 
@@ -29,7 +30,7 @@ invariant_of-self g c =
     let i = c.self.inside in
     let l : c.place_of-i.result.0 < length i.stripes.items = server_there g.L.Loglet.view i.stripes.items c.place_of-i.result.0 c.place_of-i.result.1 (rw c.as_slice.ensures.value at c.place_of-i.ensures.place) in (
       (stop_whole g.L.Loglet.view i.shape i.stripes.items i.marks i.pending c.place_of-i.result.0 c.place_of-i.result.1 c.args.after c.index_mut.result.now c.stop.new.self c.self.invariant.0 l c.index_mut.ensures.value c.stop.ensures.step).0,
-      stop_length g.L.Loglet.serving i.stripes.items c.place_of-i.result.0 c.place_of-i.result.1 c.args.server c.args.after i.told c.index_mut.result.now c.stop.new.self l c.index_mut.ensures.value (rw c.as_slice.ensures.value at c.place_of-i.ensures.each) c.stop.ensures.serves ∙ c.self.invariant.1,
+      stop_length g.L.Loglet.serving i.stripes.items c.place_of-i.result.0 c.place_of-i.result.1 c.args.server c.args.after c.index_mut.result.now c.stop.new.self l c.index_mut.ensures.value (rw c.as_slice.ensures.value at c.place_of-i.ensures.each) c.stop.ensures.serves ∙ c.self.invariant.1,
     )
 
 pub returns-clause-step : goal.returns-clause-step
@@ -49,10 +50,13 @@ pub returns-clause-serves : goal.returns-clause-serves
 returns-clause-serves g c =
     let i = c.self.inside in
     let l : c.place_of-i.result.0 < length i.stripes.items = server_there g.L.Loglet.view i.stripes.items c.place_of-i.result.0 c.place_of-i.result.1 (rw c.as_slice.ensures.value at c.place_of-i.ensures.place) in
-    serves_from g.L.Loglet.view g.L.Loglet.serving i.shape i.stripes.items i.marks i.pending i.told _ (Stop c.args.server c.args.after) Stopped (served (map g.L.Loglet.serving (set i.stripes.items c.place_of-i.result.0 c.stop.new.self)) c.args.after) c.self.view_is
-    (stop_served g.L.Loglet.serving i.stripes.items c.place_of-i.result.0 c.place_of-i.result.1 c.args.server c.args.after i.told c.index_mut.result.now c.stop.new.self l c.index_mut.ensures.value (rw c.as_slice.ensures.value at c.place_of-i.ensures.each) c.stop.ensures.serves)
+    serves_from g.L.Loglet.view g.L.Loglet.serving i.shape i.stripes.items i.marks i.pending i.given _ (Stop c.args.server c.args.after) Stopped (served (map g.L.Loglet.serving (set i.stripes.items c.place_of-i.result.0 c.stop.new.self)) i.given) c.self.view_is
+    (stop_served g.L.Loglet.serving i.stripes.items c.place_of-i.result.0 c.place_of-i.result.1 c.args.server c.args.after i.given c.index_mut.result.now c.stop.new.self l c.index_mut.ensures.value (rw c.as_slice.ensures.value at c.place_of-i.ensures.each) c.stop.ensures.serves)
 
 pub returns-clause-handed : goal.returns-clause-handed
 returns-clause-handed g c =
     let i = c.self.inside in
-    server_handed g.L.Loglet.view g.L.Loglet.serving i.shape i.stripes.items i.marks i.pending i.told _ c.args.server c.place_of-i.result.0 c.place_of-i.result.1 (λ inner. Stop inner c.args.after) Stopped c.index_mut.result.now c.stop.new.self c.self.view_is (rw c.as_slice.ensures.value at c.place_of-i.ensures.place) c.index_mut.ensures.value c.stop.ensures.serves
+    server_handed g.L.Loglet.view g.L.Loglet.serving i.shape i.stripes.items i.marks i.pending i.given _ c.args.server c.place_of-i.result.0 c.place_of-i.result.1 (λ inner. Stop inner c.args.after) Stopped c.index_mut.result.now c.stop.new.self c.self.view_is (rw c.as_slice.ensures.value at c.place_of-i.ensures.place) c.index_mut.ensures.value c.stop.ensures.serves
+
+pub returns-clause-rest : goal.returns-clause-rest
+returns-clause-rest g c = let i = c.self.inside in rest_called g.L.Loglet.view g.L.Loglet.serving i.shape i.stripes.items (set i.stripes.items c.place_of-i.result.0 c.stop.new.self) i.marks i.pending i.given _ c.self.view_is

@@ -2,6 +2,8 @@ use Rattle.std.proofs.Common.{refl}
 use Rattle.striped_loglet.proofs.Wholes.{taken_whole, taken_small, size_small, lacks_small}
 use Rattle.striped_loglet.proofs.Bridge.{step_whole, step_alike, same_state, same_striped, shows, waits_whole}
 use Rattle.striped_loglet.specs.State.{loglet_of, state_of}
+use Rattle.striped_loglet.specs.declared.marks.Marks.{Marks}
+use Rattle.striped_loglet.proofs.Works.{rest_taken}
 use Rattle.striped_loglet.proofs.Handing.{same_from}
 use Rattle.striped_loglet.proofs.striped.StripedLogletLoglet.take.Goals as goal
 use Rattle.std.proofs.Common.{ap}
@@ -50,9 +52,19 @@ returns-clause-step g c =
 pub returns-in_err-task-clause-serves : goal.returns-in_err-task-clause-serves
 returns-in_err-task-clause-serves g c =
     let i = c.self.inside in
-    same_from g.L.Loglet.view g.L.Loglet.serving i.shape i.stripes.items i.marks i.pending i.told _ _ c.self.view_is refl
+    same_from g.L.Loglet.view g.L.Loglet.serving i.shape i.stripes.items i.marks i.pending i.given _ _ c.self.view_is refl
 
 pub returns-clause-serves : goal.returns-clause-serves
 returns-clause-serves g c =
     let i = c.self.inside in
-    same_from g.L.Loglet.view g.L.Loglet.serving i.shape i.stripes.items i.marks i.pending i.told _ _ c.self.view_is refl
+    same_from g.L.Loglet.view g.L.Loglet.serving i.shape i.stripes.items i.marks i.pending i.given _ _ c.self.view_is refl
+
+pub returns-in_err-task-clause-rest : goal.returns-in_err-task-clause-rest
+returns-in_err-task-clause-rest g c =
+    let i = c.self.inside in
+    rest_taken g.L.Loglet.view g.L.Loglet.serving i.shape i.stripes.items i.marks i.marks i.pending c.take_decided.new.pending i.given _ c.self.view_is refl
+
+pub returns-clause-rest : goal.returns-clause-rest
+returns-clause-rest g c =
+    let i = c.self.inside in
+    rest_taken g.L.Loglet.view g.L.Loglet.serving i.shape i.stripes.items i.marks c.told-self-inside.result i.pending c.take_decided.new.pending i.given _ c.self.view_is (ap (λ (z : Marks). z.refusals) c.told-self-inside.ensures)
