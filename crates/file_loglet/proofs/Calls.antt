@@ -1,27 +1,31 @@
 -- The calls of a file loglet, by its parts.
-use Rattle.std.proofs.Common.{◌≡◌, ℕ, ◌+◌, ◌-◌, ◌^◌, ◌<◌, ◌≤◌, ◌⊎◌, Bool, nat_eq, nat_lt, true, false, min, max, Option, Some, None, List, ◌++◌, length, is_some, refl, inl, inr, ap, sym, ◌∙◌, subst, arith, length-append}
+use Rattle.std.proofs.Common.{◌≡◌, ℕ, ◌+◌, ◌-◌, ◌^◌, ◌<◌, ◌≤◌, ◌⊎◌, Bool, nat_eq, nat_lt, true, false, min, max, Option, Some, None, List, ◌++◌, length, is_some, map, drop, refl, inl, inr, ap, sym, ◌∙◌, subst, arith, length-append}
 use Rattle.std.specs.HashMap.{get, Updates, hash_map_len}
 use Rattle.std.proofs.lemmas.Bool.Decides.{nat_tests}
 use Rattle.delos_types.specs.declared.entry.Entry.{Entry}
 use Rattle.loglet_api.specs.declared.call.Answer.{Answer}
+use Rattle.loglet_api.specs.declared.call.Answer.TheVariants.{Beyond, NoQuorum}
 use Rattle.loglet_api.specs.declared.call.Op.{Op}
 use Rattle.loglet_api.specs.declared.call.Task.{Task}
 use Rattle.loglet_api.specs.declared.call.Task.TheVariants.{Placing, Settling, Finding, Sealing, Reading, Trimming}
-use Rattle.loglet_api.specs.View.{LogletView, operation_at}
+use Rattle.loglet_api.specs.View.{LogletView, operation_at, IsUndecided}
 use Rattle.loglet_api.specs.Step.{CanBegin, IsUndecidedAt, Carries, Begins, TakesAnswer, IsAppend, IsFull, RoseBy, bumped, entries_of, cut_by, seals_of, task_of, wanted_by, told_reach, told_firm, told_cap, told_lacks}
 use Rattle.quorum_cell.specs.declared.message.Ask.{Ask}
 use Rattle.quorum_cell.specs.declared.message.Ask.TheVariants.{Store, Seal, Tail, Repair, Read, Trim}
 use Rattle.quorum_cell.specs.Servers.{Server, length_of, is_sealed}
+use Rattle.file_loglet.specs.declared.marks.Asked.{Asked}
 use Rattle.file_loglet.specs.declared.marks.Marks.{Marks}
 use Rattle.file_loglet.specs.declared.pending.Pending.{Pending}
 use Rattle.file_loglet.specs.declared.pending.Decided.{Decided}
 use Rattle.file_loglet.specs.Held.{Held}
 use Rattle.file_loglet.specs.Later.{Copies, MayStand, IsLater, Wore, is_sealing}
 use Rattle.disk_model.specs.Disk.{bumped as disk_bumped}
-use Rattle.file_loglet.specs.Pending.{PendingMap, Fits, SetsAnswer, TakesOut, Waits, told_at}
+use Rattle.file_loglet.specs.Pending.{PendingMap, left_of, Fits, Answers, SetsAnswer, TakesOut, Waits, IsUnspoken, operation_of, shown_answer, answer_at, PutsAnswer, told_at}
 use Rattle.file_loglet.specs.State.{counted, down_of, state_of, loglet_of, IsPending, IsWhole}
-use Rattle.file_loglet.specs.File.{FileView, file_view, IsDecidedAtOnce}
+use Rattle.file_loglet.specs.File.{FileView, file_view, IsDecidedAtOnce, IsAnswered, IsTaken, Takes}
+use Rattle.file_loglet.proofs.Told.{answered}
 use Rattle.file_loglet.proofs.Steps.{carries, decided_at_once, begin_all, refuses, file_faults, file_same, same_lists, take_all, small_taken, small_size, waits_undecided, slice_get-append, cut_rises}
+use Rattle.file_loglet.proofs.Maps.{shown_at, answer_in, answer_shown, puts_answer, adds_no_answer}
 use Rattle.file_loglet.proofs.Laters.{MayFail, wore_may_fail}
 use Rattle.file_loglet.proofs.Wholes.{shows, carried_onward, whole_onward, whole_answered}
 
@@ -78,6 +82,38 @@ at_once_whole room es old new marks m n w t p y e at f s =
     subst (λ (v : LogletView). IsDecidedAtOnce v t (loglet_of (state_of room es new marks n))) (shows room es old marks m w e)
     (decided_at_once (state_of room es old marks m) (length_of new.server) (is_sealed new.server) new.server.base (counted new.disk.faults marks.refusals) (down_of new.server.up) t p y n at (s.answered p at) (failed_once old new marks.refusals f))
 
+-- an operation that isn't decided has no answer
+waiting : (a : Option Answer) → 0 < (left_of a).0 + (left_of a).1 → a ≡ None
+waiting None h = refl
+waiting (Some y) h = absurd (omega arith)
+
+waiting_at : (room : ℕ) (es : List Entry) (held : Held) (marks : Marks) (m : PendingMap) (t : ℕ) (p : Pending) → get nat_eq m t ≡ Some p → IsUndecidedAt (loglet_of (state_of room es held marks m)) t → p.answer ≡ None
+waiting_at room es held marks m t p at undecided =
+    let e = sym undecided.is ∙ shown_at m t p at in
+    let same : undecided.operation ≡ operation_of p = cc in
+    waiting p.answer (subst IsUndecided same undecided.undecided)
+
+-- what it is answered
+pub answered_whole : (room : ℕ) (es xs : List Entry) (old new : Held) (marks marks' : Marks) (m n : PendingMap) (w : FileView) (t : ℕ) (p : Pending) (y : Answer) (asked : Asked) → file_view room es old marks m ≡ w → get nat_eq m t ≡ Some p → xs ≡ es → IsUndecidedAt w.loglet t
+    → SetsAnswer m t y n → marks' ≡ record marks { asked = asked } → (IsUnspoken p.task p.firm → y ≡ Beyond p.firm) → (¬ IsUnspoken p.task p.firm → new.server.up ≡ false → y ≡ NoQuorum 1)
+    → (¬ IsUnspoken p.task p.firm → new.server.up ≡ true → Answers (drop marks.cut xs) marks.cut new.server (operation_of p) p.task y) → IsAnswered w t (file_view room es new marks' n)
+answered_whole room es xs old new marks marks' m n w t p y asked e at ex undecided s em unspoken down up =
+    let v = file_view room es old marks m in
+    let waits = waiting_at room es old marks m t p at (subst (λ (x : FileView). IsUndecidedAt x.loglet t) (sym e) undecided) in
+    let up' : ¬ IsUnspoken p.task p.firm → new.server.up ≡ true → Answers (drop marks.cut es) marks.cut new.server (operation_of p) p.task y =
+    subst (λ (zs : List Entry). ¬ IsUnspoken p.task p.firm → new.server.up ≡ true → Answers (drop marks.cut zs) marks.cut new.server (operation_of p) p.task y) ex up in
+    subst (λ (x : FileView). IsAnswered x t (file_view room es new marks' n)) e
+    (subst (λ (x : Marks). IsAnswered v t (file_view room es new x n)) (sym em) (record {
+      operation = operation_of p;
+      is = shown_at m t p at;
+      answer = y;
+      was = answer_shown m t ∙ ap answer_in at ∙ waits;
+      puts = puts_answer m n t (Some (answered p y)) (s.answered p at);
+      unspoken = unspoken;
+      down = down;
+      up = up';
+    }))
+
 -- a want of memory shows nothing
 pub unmoved_shown : (room : ℕ) (es : List Entry) (old new : Held) (marks : Marks) (m : PendingMap) → new.server.up ≡ old.server.up → new.disk.faults ≡ old.disk.faults → is_sealed new.server ≡ is_sealed old.server → loglet_of (state_of room es new marks m) ≡ loglet_of (state_of room es old marks m)
 unmoved_shown room es old new marks m up faults sealed =
@@ -100,6 +136,34 @@ taken_small room es held marks m n t d h w = small_taken (state_of room es held 
 
 pub size_small : (room : ℕ) (es : List Entry) (held : Held) (marks : Marks) (m n : PendingMap) (t : ℕ) (d : Decided) → IsWhole room es held marks m → TakesOut m t d n → d.size + 1 < 2 ^ 64
 size_small room es held marks m n t d h w = small_size (state_of room es held marks m) t d n h.file w
+
+-- what is taken is the answer that was decided
+pub takes_whole : (room : ℕ) (es : List Entry) (held : Held) (marks marks' : Marks) (m n : PendingMap) (w : FileView) (t : ℕ) (d : Decided) (answer : Answer) → file_view room es held marks m ≡ w → TakesOut m t d n → answer ≡ told_at d.task marks.cut d.answer
+    → IsTaken w t answer (file_view room es held marks' n)
+takes_whole room es held marks marks' m n w t d answer e o told =
+    subst (λ (x : FileView). IsTaken x t answer (file_view room es held marks' n)) e (record {
+      operation = operation_of o.p;
+      is = shown_at m t o.p o.was;
+      decided = d.answer;
+      was = answer_shown m t ∙ ap answer_in o.was ∙ o.answer;
+      told = told ∙ ap (λ (x : Task). told_at x marks.cut d.answer) (sym o.task);
+      puts = puts_answer m n t None o.rest;
+    })
+
+no_answer_yet : (x : Option Pending) → ((p : Pending) → x ≡ Some p → p.answer ≡ None) → answer_in x ≡ None
+no_answer_yet None h = refl
+no_answer_yet (Some p) h = h p refl
+
+pub waits_whole : (room : ℕ) (es : List Entry) (held : Held) (marks : Marks) (m n : PendingMap) (w : FileView) (t : ℕ) → file_view room es held marks m ≡ w → Waits m t → n.entries ≡ m.entries → Takes w t None (file_view room es held marks n)
+waits_whole room es held marks m n w t e waits same =
+    subst (λ (x : FileView). Takes x t None (file_view room es held marks n)) e (
+      answer_shown m t ∙ no_answer_yet (get nat_eq m t) waits,
+      ap (λ (xs : List (ℕ × Pending)). map shown_answer xs) same,
+    )
+
+-- one that is forgotten has none
+pub forgets_answer : (room : ℕ) (es : List Entry) (held : Held) (marks : Marks) (m n : PendingMap) (w : FileView) (t : ℕ) → file_view room es held marks m ≡ w → Updates nat_eq m n t None → PutsAnswer w.answers t None (file_view room es held marks n).answers
+forgets_answer room es held marks m n w t e u = subst (λ (x : FileView). PutsAnswer x.answers t None (file_view room es held marks n).answers) e (puts_answer m n t None u)
 
 pub whole_unchanged : (room : ℕ) (es : List Entry) (held : Held) (marks : Marks) (m : PendingMap) (es' : List Entry) (n : PendingMap) → IsWhole room es held marks m → es' ≡ es → n.entries ≡ m.entries → IsWhole room es' held marks n
 whole_unchanged room es held marks m es' n h e f =
@@ -159,3 +223,18 @@ whole_begun room es held marks marks' m op es' n task size shut faults down h ca
 
 pub undecided_is_open : (v : LogletView) (t : ℕ) → IsUndecidedAt v t → is_some (operation_at v.operations t) ≡ true
 undecided_is_open v t u = ap is_some u.is
+
+-- nothing is answered of an operation that is begun
+free_ticket : (x : Option Pending) → ((p : Pending) → x ≡ Some p → ⊥) → x ≡ None
+free_ticket None h = refl
+free_ticket (Some p) h = absurd (h p refl)
+
+pub counts_begun : (room : ℕ) (es : List Entry) (held : Held) (marks marks' : Marks) (m : PendingMap) (es' : List Entry) (n : PendingMap) (w : FileView) (p : Pending) (cut begun seals : ℕ) → file_view room es held marks m ≡ w → IsWhole room es held marks m
+    → marks' ≡ record marks { cut = cut; begun = begun; seals = seals } → Updates nat_eq m n marks.begun (Some p) → p.answer ≡ None
+    → (file_view room es' held marks' n ≡ record w { loglet = loglet_of (state_of room es' held marks' n); answers = map shown_answer n.entries }) × ((t : ℕ) → answer_at (map shown_answer n.entries) t ≡ answer_at w.answers t)
+counts_begun room es held marks marks' m es' n w p cut begun seals e h em up none =
+    let free : get nat_eq m marks.begun ≡ None = free_ticket (get nat_eq m marks.begun) (λ q at. (let t = (h.file.pending marks.begun q at).ticket in omega (arith, t))) in
+    subst (λ (v : FileView). (file_view room es' held marks' n ≡ record v { loglet = loglet_of (state_of room es' held marks' n); answers = map shown_answer n.entries }) × ((t : ℕ) → answer_at (map shown_answer n.entries) t ≡ answer_at v.answers t)) e (
+      subst (λ (x : Marks). file_view room es' held x n ≡ record (file_view room es held marks m) { loglet = loglet_of (state_of room es' held x n); answers = map shown_answer n.entries }) (sym em) refl,
+      adds_no_answer m n marks.begun p free none up,
+    )

@@ -109,17 +109,24 @@ trimmed_later entries cut sealing s n le above within =
       torn = inl refl;
     }
 
-wrote_trim : {U : Type 0} (entries : List Entry) (cut : ℕ) (sealing : Bool) (old new : Held) (done : Result U Fault) → old.server.base < cut → cut ≤ length_of old.server → Writes old (Trim cut) done new → IsLater entries cut sealing old.server new.server
-wrote_trim entries cut sealing old new (Ok u) above within w = subst (λ (s : Server). IsLater entries cut sealing old.server s) (sym w.0) (trimmed_later entries cut sealing old.server cut (omega arith) above within)
-wrote_trim entries cut sealing old new (Err Disk) above within w = subst (λ (s : Server). IsLater entries cut sealing old.server s) (sym w.0) (torn_later entries cut sealing false old.server (Trim cut) (omega arith))
-wrote_trim entries cut sealing old new (Err Memory) above within w = subst (λ (s : Server). IsLater entries cut sealing old.server s) (sym w.0) (later_same entries cut sealing old.server)
+wrote_trim : {U : Type 0} (entries : List Entry) (cut n : ℕ) (sealing : Bool) (old new : Held) (done : Result U Fault) → n ≤ cut → old.server.base < n → n ≤ length_of old.server → Writes old (Trim n) done new → IsLater entries cut sealing old.server new.server
+wrote_trim entries cut n sealing old new (Ok u) le above within w = subst (λ (s : Server). IsLater entries cut sealing old.server s) (sym w.0) (trimmed_later entries cut sealing old.server n le above within)
+wrote_trim entries cut n sealing old new (Err Disk) le above within w = subst (λ (s : Server). IsLater entries cut sealing old.server s) (sym w.0) (torn_later entries cut sealing false old.server (Trim n) le)
+wrote_trim entries cut n sealing old new (Err Memory) le above within w = subst (λ (s : Server). IsLater entries cut sealing old.server s) (sym w.0) (later_same entries cut sealing old.server)
 
-pub trim_later : {U : Type 0} (entries : List Entry) (cut : ℕ) (sealing : Bool) (old new : Held) (done : Result U Fault) → cut ≤ length_of old.server → (old.server.base < cut → Writes old (Trim cut) done new) → (cut ≤ old.server.base → IsOk done × (new ≡ old)) → IsLater entries cut sealing old.server new.server
-trim_later entries cut sealing old new done within above gone =
-    elim (cases_lt old.server.base cut) [
-      | inl lt ↦ wrote_trim entries cut sealing old new done lt within (above lt)
+-- a trim of what is at or below the cut
+pub trim_later : {U : Type 0} (entries : List Entry) (cut n : ℕ) (sealing : Bool) (old new : Held) (done : Result U Fault) → n ≤ cut → n ≤ length_of old.server → (old.server.base < n → Writes old (Trim n) done new) → (n ≤ old.server.base → IsOk done × (new ≡ old)) → IsLater entries cut sealing old.server new.server
+trim_later entries cut n sealing old new done le within above gone =
+    elim (cases_lt old.server.base n) [
+      | inl lt ↦ wrote_trim entries cut n sealing old new done le lt within (above lt)
       | inr ge ↦ subst (λ (w : Held). IsLater entries cut sealing old.server w.server) (sym (gone ge).1) (later_same entries cut sealing old.server)
     ]
+
+-- an entry at or behind the cut, in what is left of the log
+pub got_behind : (entries : List Entry) (cut q : ℕ) (e : Entry) → slice_get entries q ≡ Some e → cut ≤ q → slice_get (drop cut entries) (q - cut) ≡ Some e
+got_behind entries cut q e is le =
+    let at : cut + (q - cut) ≡ q = omega arith in
+    slice_get-drop cut entries (q - cut) ∙ ap (λ i. slice_get entries i) at ∙ is
 
 -- a trim that was written, or had nothing to write, lets go of all below the cut
 pub trim_reaches : {U : Type 0} (cut : ℕ) (old new : Held) (u : U) → (old.server.base < cut → Writes old (Trim cut) (Ok u) new) → (cut ≤ old.server.base → new ≡ old) → cut ≤ new.server.base

@@ -1,14 +1,16 @@
 -- The open operations as the loglet shows them.
 use Rattle.std.proofs.Common.{◌≡◌, ℕ, ◌⊎◌, Bool, nat_eq, true, false, cond, Option, None, Some, is_some, List, [], ◌∷◌, map, refl, inl, inr, ap, sym, ◌∙◌, arith}
+use Rattle.std.specs.Prelude.{unwrap_or}
 use Rattle.std.specs.Option.{option_map}
 use Rattle.std.specs.Map.{lookup}
 use Rattle.std.specs.HashMap.{get, Updates}
 use Rattle.std.proofs.lemmas.Bool.{cases_Bool}
 use Rattle.std.proofs.lemmas.Bool.Decides.{nat_tests}
+use Rattle.loglet_api.specs.declared.call.Answer.{Answer}
 use Rattle.loglet_api.specs.View.{Operation, operation_at}
 use Rattle.loglet_api.specs.Step.{PutsOperation}
 use Rattle.file_loglet.specs.declared.pending.Pending.{Pending}
-use Rattle.file_loglet.specs.Pending.{PendingMap, operation_of, shown}
+use Rattle.file_loglet.specs.Pending.{PendingMap, operation_of, shown, shown_answer, answer_at, PutsAnswer}
 
 -- a look-up in what is shown
 pub lookup_shown : (test : ℕ → Bool) (es : List (ℕ × Pending)) → lookup test (map shown es) ≡ option_map operation_of (lookup test es)
@@ -55,4 +57,39 @@ get_after m n t q w p u is =
     elim (cases_Bool (nat_eq t q)) [
       | inl same ↦ inl ((grind (arith, nat_tests)), rw same at e)
       | inr other ↦ inr (rw other at e)
+    ]
+
+-- ---- answers
+
+abbrev pub answer_in : Option Pending → Option Answer
+answer_in None = None
+answer_in (Some p) = p.answer
+
+lookup_answer : (test : ℕ → Bool) (es : List (ℕ × Pending)) → unwrap_or (lookup test (map shown_answer es)) None ≡ answer_in (lookup test es)
+lookup_answer test [] = refl
+lookup_answer test (e ∷ es) =
+    elim (cases_Bool (test e.0)) [ inl same ↦ rw same refl | inr other ↦ rw other (lookup_answer test es) ]
+
+-- the answer that is shown
+pub answer_shown : (m : PendingMap) (t : ℕ) → answer_at (map shown_answer m.entries) t ≡ answer_in (get nat_eq m t)
+answer_shown m t = lookup_answer (nat_eq t) m.entries
+
+answer_if : (b : Bool) (x y : Option Pending) → answer_in (cond b x y) ≡ cond b (answer_in x) (answer_in y)
+answer_if true x y = refl
+answer_if false x y = refl
+
+-- a change of one is shown as a change of one
+pub puts_answer : (m n : PendingMap) (t : ℕ) (w : Option Pending) → Updates nat_eq m n t w → PutsAnswer (map shown_answer m.entries) t (answer_in w) (map shown_answer n.entries)
+puts_answer m n t w u q =
+    answer_shown n q ∙ ap answer_in (u.0 q) ∙ answer_if (nat_eq t q) w (get nat_eq m q)
+    ∙ ap (λ x. cond (nat_eq t q) (answer_in w) x) (sym (answer_shown m q))
+
+-- one that is added without an answer shows none, where there was none of its ticket
+pub adds_no_answer : (m n : PendingMap) (t : ℕ) (p : Pending) → get nat_eq m t ≡ None → p.answer ≡ None → Updates nat_eq m n t (Some p) → (q : ℕ) → answer_at (map shown_answer n.entries) q ≡ answer_at (map shown_answer m.entries) q
+adds_no_answer m n t p free none u q =
+    elim (cases_Bool (nat_eq t q)) [
+      | inl same ↦ (let e : t ≡ q = grind (arith, nat_tests) in
+          let before : answer_at (map shown_answer m.entries) q ≡ None = rw (← e) (answer_shown m t ∙ ap answer_in free) in
+          rw same at (puts_answer m n t (Some p) u q) ∙ none ∙ sym before)
+      | inr other ↦ rw other at (puts_answer m n t (Some p) u q)
     ]

@@ -5,6 +5,8 @@ use Rattle.std.specs.declared.alloc.AllocError.{AllocError}
 use Rattle.std.proofs.lemmas.Bool.{cases_Bool}
 use Rattle.delos_types.specs.declared.entry.Entry.{Entry}
 use Rattle.disk_model.specs.Disk.{DiskView, bumped as disk_bumped}
+use Rattle.disk_model.specs.Armed.{Spends}
+use Rattle.server_records.specs.Spelled.{empty_server}
 use Rattle.loglet_api.specs.declared.call.LogletCall.TheVariants.{Carry, Stray, Stop, Restart}
 use Rattle.loglet_api.specs.declared.call.LogletAnswer.TheVariants.{Refusal, Carried, Strayed, Stopped, Restarted}
 use Rattle.loglet_api.specs.declared.call.Refused.TheVariants.{Memory}
@@ -16,7 +18,7 @@ use Rattle.file_loglet.specs.declared.marks.Marks.{Marks}
 use Rattle.file_loglet.specs.Held.{Held, IsCalm, Fails, ComesUp, IsReopened, StaysDown, Brings}
 use Rattle.file_loglet.specs.Later.{Wore, Stuck}
 use Rattle.file_loglet.specs.Pending.{PendingMap}
-use Rattle.file_loglet.specs.File.{FileView, file_view, held_in, state_in, serving_of}
+use Rattle.file_loglet.specs.File.{FileView, file_view, held_in, state_in, new_state, serving_of}
 use Rattle.file_loglet.proofs.Wholes.{restarted_up, stop_calm}
 
 -- ---- one server
@@ -85,6 +87,21 @@ stuck old new a h =
 at_zero : (R : ServerState → ServerState → Type 0) (i : ℕ) (s t : ServerState) → i < 1 → R s t → ChangesAt R i (s ∷ []) (t ∷ [])
 at_zero R zero s t lt r = (r, refl)
 at_zero R (suc i) s t lt r = absurd (omega arith)
+
+-- ---- a new one
+
+abbrev nothing_asked : Asked
+nothing_asked = record { told = 0; carries = 0; strays = 0; stops = 0; restarts = 0 }
+
+-- it holds nothing, on a disk that wasn't armed, never failed and wasn't reopened
+pub new_serving : (v : FileView) → (v.server ≡ empty_server) × (v.disk.faults ≡ 0) × (v.disk.word ≡ 0) → Spends 1 0 v.disk.armed → v.asked ≡ nothing_asked → serving_of v ≡ record { states = new_state ∷ []; told = 0; carries = 0; strays = 0 }
+new_serving v disk spends asked =
+    let armed : v.disk.armed ≡ 0 = omega (arith, spends.fewer) in
+    ap (λ (a : Asked). record { states = state_in (held_in v) a ∷ []; told = a.told; carries = a.carries; strays = a.strays }) asked
+    ∙ ap (λ (u : Bool). record { states = state u (if u then v.disk.armed else 0) v.disk.word v.disk.faults nothing_asked ∷ []; told = 0; carries = 0; strays = 0 }) (ap (λ (s : Server). s.up) disk.0)
+    ∙ ap (λ (n : ℕ). record { states = state true n v.disk.word v.disk.faults nothing_asked ∷ []; told = 0; carries = 0; strays = 0 }) armed
+    ∙ ap (λ (w : ℕ). record { states = state true 0 w v.disk.faults nothing_asked ∷ []; told = 0; carries = 0; strays = 0 }) disk.2
+    ∙ ap (λ (f : ℕ). record { states = state true 0 0 f nothing_asked ∷ []; told = 0; carries = 0; strays = 0 }) disk.1
 
 -- ---- calls
 

@@ -1,6 +1,6 @@
 -- What the records of a server ask for, and what a restart finds.
 use Rattle.std.proofs.Common.{◌≡◌, ℕ, ◌+◌, ◌-◌, ◌^◌, ◌<◌, ◌≤◌, ◌⊎◌, Bool, true, false, cond, not, eqb, ltb, lt-ltb, List, [], ◌∷◌, ◌++◌, length, length-append, length-drop, drop, Option, Some, None, refl, sym, ap, subst, ◌∙◌, arith, inl, inr}
-use Rattle.std.specs.Prelude.{option_map, unwrap_or}
+use Rattle.std.specs.Prelude.{option_map, unwrap_or, Err}
 use Rattle.std.proofs.lemmas.Bool.Decides.{nat_tests}
 use Rattle.delos_types.specs.declared.entry.Entry.{Entry}
 use Rattle.journal_core.specs.Journal.{View, WithOrWithout, LeavesRecords, Survives}
@@ -18,7 +18,10 @@ use Rattle.file_loglet.specs.declared.extent.Change.{Change}
 use Rattle.file_loglet.specs.declared.extent.Change.TheVariants.{Storing, Sealing, Trimming}
 use Rattle.file_loglet.specs.declared.extent.Extent.{Extent}
 use Rattle.file_loglet.specs.Extents.{extent_of, extent_after, extent_restarted}
-use Rattle.file_loglet.specs.Held.{Held, ask_by, ask_of, spelled, held_by, Changes, Tears, IsHeldBy}
+use Rattle.journal_core.specs.declared.fault.Fault.{Fault}
+use Rattle.journal_core.specs.declared.fault.Fault.TheVariants.{Disk, Memory}
+use Rattle.disk_model.specs.Disk.{bumped}
+use Rattle.file_loglet.specs.Held.{Held, ask_by, ask_of, spelled, held_by, Changes, Tears, IsHeldBy, IsReopened, StaysDown, Restores}
 
 asks : (bytes : List ℕ) (r : Record) → SpellsRecord bytes r → ask_of bytes ≡ ask_by (Some r)
 asks bytes r s = ap ask_by (record_again bytes r s)
@@ -253,3 +256,30 @@ restarted_server held j now x change view h opened found =
           ∙ up_again (held_by j).server it.0 (held_by j).server.torn refl
           ∙ ap (λ (w : Held). restarted w.server it.0 w.server.torn) view,
     )
+
+-- a server whose journal couldn't be reopened is down as before
+still_down : (held : Held) (j now : View) → held_by j ≡ held → held.server.up ≡ false → now ≡ record j { shut = true; disk = now.disk } → (held_by now).server ≡ held.server
+still_down held j now view was same =
+    let shut : not j.shut ≡ false = ap (λ (w : Held). w.server.up) view ∙ was in
+    ap (λ (v : View). (held_by v).server) same
+    ∙ ap (λ (b : Bool). record (spelled j.records) { up = b; torn = option_map ask_of j.torn }) (sym shut)
+    ∙ ap (λ (w : Held). w.server) view
+
+pub not_restored : (word : ℕ) (held : Held) (j now : View) (f : Fault) → held_by j ≡ held → held.server.up ≡ false
+    → (f ≡ Memory → (now ≡ record j { disk = now.disk }) × (now.disk.faults ≡ j.disk.faults)) → (f ≡ Memory → now.disk.word ≡ word)
+    → (f ≡ Disk → (now ≡ record j { shut = true; disk = now.disk }) × (now.disk.faults ≡ bumped j.disk.faults)) → (f ≡ Disk → (now.disk.word ≡ word) ⊎ (now.disk.word ≡ j.disk.word))
+    → Restores {U = Unit {0}} word held (Err f) (held_by now)
+not_restored word held j now Memory view was same again failed tried =
+    record {
+      was = was;
+      server = ap (λ (v : View). (held_by v).server) (same refl).0 ∙ ap (λ (w : Held). w.server) view;
+      faults = (same refl).1 ∙ ap (λ (w : Held). w.disk.faults) view;
+      reopened = again refl;
+    }
+not_restored word held j now Disk view was same again failed tried =
+    record {
+      was = was;
+      server = still_down held j now view was (failed refl).0;
+      faults = (failed refl).1 ∙ ap (λ (w : Held). bumped w.disk.faults) view;
+      tried = subst (λ (w : Held). (now.disk.word ≡ word) ⊎ (now.disk.word ≡ w.disk.word)) view (tried refl);
+    }

@@ -1,8 +1,10 @@
 -- What a file loglet shows, and what holds of it.
-use Rattle.std.specs.Prelude.{◌≡◌, ℕ, ◌-◌, ◌≤◌, ◌⊎◌, if◌then◌else◌, Bool, true, false, Some, List, [], ◌∷◌, slice_get, Result, Ok, Err}
+use Rattle.std.specs.Prelude.{◌≡◌, ℕ, ◌-◌, ◌≤◌, ◌⊎◌, if◌then◌else◌, Bool, true, false, Option, Some, None, List, [], ◌∷◌, map, slice_get, Result, Ok, Err}
 use Rattle.delos_types.specs.declared.entry.Entry.{Entry}
 use Rattle.disk_model.specs.Disk.{DiskView}
 use Rattle.journal_core.specs.Journal.{LeavesRecords}
+use Rattle.loglet_api.specs.declared.call.Answer.{Answer}
+use Rattle.loglet_api.specs.declared.call.Answer.TheVariants.{Beyond, NoQuorum}
 use Rattle.loglet_api.specs.declared.call.Refused.{Refused}
 use Rattle.loglet_api.specs.declared.call.Refused.TheVariants.{Full}
 use Rattle.loglet_api.specs.View.{LogletView, Operation, operation_at, IsDecided}
@@ -13,13 +15,14 @@ use Rattle.server_records.specs.Spelled.{server_of}
 use Rattle.file_loglet.specs.declared.marks.Asked.{Asked}
 use Rattle.file_loglet.specs.declared.marks.Marks.{Marks}
 use Rattle.file_loglet.specs.Held.{Held}
-use Rattle.file_loglet.specs.Pending.{PendingMap}
+use Rattle.file_loglet.specs.Pending.{PendingMap, IsUnspoken, shown_answer, answer_at, PutsAnswer, Answers, told_at}
 use Rattle.file_loglet.specs.State.{counted, down_of, state_of, loglet_of}
 
--- A file loglet: what every loglet shows, its server, its disk, how many operations it refused as full, and what was
--- asked of its server.
+-- A file loglet: what every loglet shows, what its open operations were answered, by ticket, its server, its disk, how many
+-- operations it refused as full, and what was asked of its server.
 pub record FileView : Type 0 where
   pub loglet : LogletView
+  pub answers : List (ℕ × Option Answer)
   pub server : Server
   pub disk : DiskView
   pub refusals : ℕ
@@ -27,7 +30,7 @@ pub record FileView : Type 0 where
 
 abbrev pub file_view : ℕ → List Entry → Held → Marks → PendingMap → FileView
 file_view room entries held marks pending =
-    record { loglet = loglet_of (state_of room entries held marks pending); server = held.server; disk = held.disk; refusals = marks.refusals; asked = marks.asked }
+    record { loglet = loglet_of (state_of room entries held marks pending); answers = map shown_answer pending.entries; server = held.server; disk = held.disk; refusals = marks.refusals; asked = marks.asked }
 
 abbrev pub held_in : FileView → Held
 held_in v = record { server = v.server; disk = v.disk }
@@ -42,6 +45,10 @@ state_in h asked = record {
   stops = asked.stops;
   restarts = asked.restarts;
 }
+
+-- a server on a fresh disk: it is up, nothing is to stop or failed, and nothing was asked
+abbrev pub new_state : ServerState
+new_state = record { up = true; armed = 0; word = 0; faults = 0; stops = 0; restarts = 0 }
 
 abbrev pub serving_of : FileView → ServersView
 serving_of v = record { states = state_in (held_in v) v.asked ∷ []; told = v.asked.told; carries = v.asked.carries; strays = v.asked.strays }
@@ -69,8 +76,34 @@ pub record IsDecidedAtOnce (old : LogletView) (t : ℕ) (new : LogletView) : Typ
   pub decided : IsDecided operation
   pub failed : ((new.faults ≡ old.faults) × (new.down ≡ old.down)) ⊎ ((old.down ≡ 0) × (new.down ≡ 1) × (new.faults ≡ bumped old.faults))
 
--- A begin counts a refusal as full, and that alone; it leaves the server and its disk.
+-- A carry answers its operation, and no other. A Read of a position of which no answer had spoken as it began needs no
+-- server. Any other operation is out of reach where the server is down as the carry ends, and only there; else the answer
+-- is that of the server, as it is then.
+pub record IsAnswered (old : FileView) (t : ℕ) (new : FileView) : Type 0 where
+  pub operation : Operation
+  pub is : operation_at old.loglet.operations t ≡ Some operation
+  pub answer : Answer
+  pub was : answer_at old.answers t ≡ None
+  pub puts : PutsAnswer old.answers t (Some answer) new.answers
+  pub unspoken : IsUnspoken operation.task operation.firm → answer ≡ Beyond operation.firm
+  pub down : ¬ IsUnspoken operation.task operation.firm → new.server.up ≡ false → answer ≡ NoQuorum 1
+  pub up : ¬ IsUnspoken operation.task operation.firm → new.server.up ≡ true → Answers new.loglet.log new.loglet.cut new.server operation operation.task answer
+
+-- An answer that is taken is the one that was decided, unless the position of a Read is trimmed by now; the others stay.
+pub record IsTaken (old : FileView) (t : ℕ) (answer : Answer) (new : FileView) : Type 0 where
+  pub operation : Operation
+  pub is : operation_at old.loglet.operations t ≡ Some operation
+  pub decided : Answer
+  pub was : answer_at old.answers t ≡ Some decided
+  pub told : answer ≡ told_at operation.task old.loglet.cut decided
+  pub puts : PutsAnswer old.answers t None new.answers
+
+abbrev pub Takes : FileView → ℕ → Option Answer → FileView → Type 0
+Takes old t None new = (answer_at old.answers t ≡ None) × (new.answers ≡ old.answers)
+Takes old t (Some answer) new = IsTaken old t answer new
+
+-- A begin counts a refusal as full, and that alone; it leaves the server and its disk, and answers nothing.
 abbrev pub Counts : {U : Type 0} → FileView → Result U Refused → FileView → Type 0
-Counts old (Ok u) new = new ≡ record old { loglet = new.loglet }
+Counts old (Ok u) new = (new ≡ record old { loglet = new.loglet; answers = new.answers }) × ((t : ℕ) → answer_at new.answers t ≡ answer_at old.answers t)
 Counts old (Err Full) new = new ≡ record old { loglet = new.loglet; refusals = bumped old.refusals }
 Counts old (Err refused) new = new ≡ old

@@ -104,6 +104,12 @@ pub record StaysDown (word : ℕ) (old new : Held) : Type 0 where
   pub faults : new.disk.faults ≡ bumped old.disk.faults
   pub tried : (new.disk.word ≡ word) ⊎ (new.disk.word ≡ old.disk.word)
 
+-- a restart by this word of a server that is down
+abbrev pub Restores : {U : Type 0} → ℕ → Held → Result U Fault → Held → Type 0
+Restores word old (Ok u) new = ComesUp word old new
+Restores word old (Err Disk) new = StaysDown word old new
+Restores word old (Err Memory) new = IsReopened word old new
+
 -- A restart by this word: one that is up stays as it is. One that is down comes up; or its disk failed, or memory was wanting.
 abbrev pub Brings : ℕ → Held → Result Bool AllocError → Held → Type 0
 Brings word old (Ok true) new = ((old.server.up ≡ true) × (new ≡ old)) ⊎ ComesUp word old new

@@ -1,6 +1,7 @@
 -- What a file loglet keeps of its open operations.
-use Rattle.std.specs.Prelude.{◌≡◌, ℕ, ◌+◌, ◌<◌, ◌≤◌, nat_eq, nat_lt, if◌then◌else◌, min, Bool, true, false, Option, None, Some, List, slice_get}
+use Rattle.std.specs.Prelude.{◌≡◌, ℕ, ◌+◌, ◌-◌, ◌<◌, ◌≤◌, nat_eq, nat_lt, if◌then◌else◌, min, Bool, true, false, Option, None, Some, unwrap_or, List, slice_get}
 use Rattle.std.specs.HashMap.{HashMap, get, Updates, hash_map_len}
+use Rattle.std.specs.Map.{lookup}
 use Rattle.std.specs.declared.hash.FoldHasher.{FoldHasher}
 use Rattle.std.specs.declared.hash.BuildHasherDefault.{BuildHasherDefault}
 use Rattle.delos_types.specs.declared.entry.Entry.{Entry}
@@ -9,6 +10,7 @@ use Rattle.loglet_api.specs.declared.call.Answer.TheVariants.{Placed, Settled, O
 use Rattle.loglet_api.specs.declared.call.Task.{Task}
 use Rattle.loglet_api.specs.declared.call.Task.TheVariants.{Placing, Settling, Finding, Sealing, Reading, Trimming}
 use Rattle.loglet_api.specs.View.{Operation}
+use Rattle.quorum_cell.specs.Servers.{Server, length_of, is_sealed}
 use Rattle.file_loglet.specs.declared.pending.Pending.{Pending}
 use Rattle.file_loglet.specs.declared.pending.Decided.{Decided}
 
@@ -28,6 +30,32 @@ operation_of p =
 
 abbrev pub shown : ℕ × Pending → ℕ × Operation
 shown e = (e.0, operation_of e.1)
+
+-- its answer as the loglet shows it, where it is decided
+abbrev pub shown_answer : ℕ × Pending → ℕ × Option Answer
+shown_answer e = (e.0, e.1.answer)
+
+-- the answer that a ticket's operation has, where it is decided
+abbrev pub answer_at : List (ℕ × Option Answer) → ℕ → Option Answer
+answer_at answers t = unwrap_or (lookup (nat_eq t) answers) None
+
+-- this ticket has this answer now, or none, and each other what it had
+abbrev pub PutsAnswer : List (ℕ × Option Answer) → ℕ → Option Answer → List (ℕ × Option Answer) → Type 0
+PutsAnswer old t answer new = (q : ℕ) → answer_at new q ≡ (if nat_eq t q then answer else answer_at old q)
+
+-- What a server that is up answers an operation once it has done what was asked, where the log has these entries from the
+-- cut on. An open tail is its very length, and a trim has let go of all below the cut.
+abbrev pub Answers : List Entry → ℕ → Server → Operation → Task → Answer → Type 0
+Answers log cut s o Placing (Placed q) = (is_sealed s ≡ false) × (q ≡ o.size) × (q < length_of s)
+Answers log cut s o Placing Sealed = is_sealed s ≡ true
+Answers log cut s o (Settling n) Settled = (is_sealed s ≡ false) × (min n o.size ≤ length_of s)
+Answers log cut s o (Settling n) Sealed = is_sealed s ≡ true
+Answers log cut s o Finding (OpenTail n) = (is_sealed s ≡ false) × (n ≡ length_of s)
+Answers log cut s o Finding (SealedTail n) = (is_sealed s ≡ true) × (n ≡ length_of s)
+Answers log cut s o Sealing SealDone = is_sealed s ≡ true
+Answers log cut s o (Reading q) (Got e) = cut ≤ q → slice_get log (q - cut) ≡ Some e
+Answers log cut s o (Trimming n) TrimDone = cut ≤ s.base
+Answers log cut s o task answer = ⊥
 
 -- The answer fits what the server stores, and goes on to fit: what is stored grows until the seal
 -- and stays from then on. `lack` says why the server may have been out of reach.

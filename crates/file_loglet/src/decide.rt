@@ -1,11 +1,11 @@
 //! What carrying an operation comes to.
-ghost use Rattle.std.specs.Prelude.{◌≡◌, ◌+◌, ◌^◌, ◌<◌, ◌≤◌, ℕ, Bool, true, false, if◌then◌else◌, List, length, slice_get, Some, IfOk, OnOk, OnErr};
+ghost use Rattle.std.specs.Prelude.{◌≡◌, ◌+◌, ◌^◌, ◌<◌, ◌≤◌, ℕ, Bool, true, false, if◌then◌else◌, List, length, drop, slice_get, Some, IfOk, OnOk, OnErr};
 ghost use Rattle.delos_types.specs.Spelling.{IsSpellable};
 ghost use Rattle.delos_types.specs.declared.entry.Entry as given;
 ghost use Rattle.loglet_api.specs.declared.call.Answer.TheVariants.{Sealed};
 ghost use Rattle.quorum_cell.specs.Servers.{length_of, is_sealed};
 ghost use Rattle.file_loglet.specs.Later.{IsLater, GoesOn, Wears, is_sealing};
-ghost use Rattle.file_loglet.specs.Pending.{Fits, told_at};
+ghost use Rattle.file_loglet.specs.Pending.{Answers, Fits, IsUnspoken, operation_of, told_at};
 
 use crate::pending::Pending;
 use crate::server::FileServer;
@@ -42,7 +42,11 @@ pub fn decide<D: Disk>(
     ensures later { IsLater entries.now cut (is_sealing p.now.task) server.old.server server.new.server }
     ensures wears { Wears server.old result server.new }
     ensures fits { IfOk result (Fits entries.now (length_of server.new.server) (is_sealed server.new.server) (server.new.server.up ≡ false) p.now p.now.task) }
-    ensures trimmed { (n : ℕ) → p.now.task ≡ Task.Trimming n → IfOk result (λ answer. answer ≡ Answer.TrimDone → cut ≤ server.new.server.base) }
+
+    // Out of reach is the server that is down now, and no other; one that is up answers as it is now.
+    ensures unspoken { IsUnspoken p.now.task p.now.firm → IfOk result (λ answer. answer ≡ Answer.Beyond p.now.firm) }
+    ensures down { ¬ IsUnspoken p.now.task p.now.firm → server.new.server.up ≡ false → IfOk result (λ answer. answer ≡ Answer.NoQuorum 1) }
+    ensures up { ¬ IsUnspoken p.now.task p.now.firm → server.new.server.up ≡ true → IfOk result (Answers (drop cut entries.now) cut server.new.server (operation_of p.now) p.now.task) }
     ensures memory { OnErr result (is_sealed server.new.server ≡ is_sealed server.old.server) }
 {
     if p.is_unspoken() {
@@ -59,7 +63,7 @@ pub fn decide<D: Disk>(
 }
 
 /// Carries an operation on a server that is up.
-#[tactic(auto, using(crate::proofs::Laters::goes_same, crate::proofs::Laters::trim_goes))]
+#[tactic(auto, using(crate::proofs::Laters::goes_same, crate::proofs::Laters::got_behind))]
 fn ask<D: Disk>(
     server: &mut FileServer<D>,
     entries: &[Entry],
@@ -80,18 +84,15 @@ fn ask<D: Disk>(
     ensures later { IsLater entries.now cut (is_sealing p.now.task) server.old.server server.new.server }
     ensures goes_on { GoesOn server.old result server.new }
     ensures fits { IfOk result (Fits entries.now (length_of server.new.server) (is_sealed server.new.server) ⊥ p.now p.now.task) }
-    ensures trimmed { (n : ℕ) → p.now.task ≡ Task.Trimming n → IfOk result (λ answer. answer ≡ Answer.TrimDone → cut ≤ server.new.server.base) }
+    ensures answers { IfOk result (Answers (drop cut entries.now) cut server.new.server (operation_of p.now) p.now.task) }
 {
     match p.task {
         Task::Placing => store(server, entries, p.size + 1, Answer::Placed(p.size)),
         Task::Settling(n) => store(server, entries, n.min(p.size), Answer::Settled),
         Task::Finding => Ok(tail(server)),
         Task::Sealing => seal(server),
-        Task::Reading(position) => Ok(Answer::Got(entries[position as usize].clone()?)),
-        Task::Trimming(_) => {
-            server.trim(cut)?;
-            Ok(Answer::TrimDone)
-        }
+        Task::Reading(position) => Ok(Answer::Got(entry_at(entries, position)?)),
+        Task::Trimming(_) => trim(server, cut),
     }
 }
 
@@ -166,6 +167,29 @@ fn seal<D: Disk>(server: &mut FileServer<D>) -> Result<Answer, Fault>
         server.seal()?;
     }
     Ok(Answer::SealDone)
+}
+
+/// Lets go of the entries below the cut, on a server that is up.
+#[tactic(auto, using(crate::proofs::Laters::trim_goes))]
+fn trim<D: Disk>(server: &mut FileServer<D>, cut: u64) -> Result<Answer, Fault>
+    requires up { server.old.server.up ≡ true }
+    requires within { cut ≤ length_of server.old.server }
+    ensures later { (entries : List given.Entry) (top : ℕ) (sealing : Bool) → cut ≤ top → IsLater entries top sealing server.old.server server.new.server }
+    ensures goes_on { GoesOn server.old result server.new }
+    ensures trimmed { IfOk result (λ answer. (answer ≡ Answer.TrimDone) × (cut ≤ server.new.server.base)) }
+{
+    server.trim(cut)?;
+    Ok(Answer::TrimDone)
+}
+
+/// A copy of the entry of a position.
+fn entry_at(entries: &[Entry], position: u64) -> Result<Entry, AllocError>
+    requires within { position < length entries.now }
+    requires small { length entries.now ≤ 2 ^ 32 }
+    ensures { IfOk result (λ e. slice_get entries.now position ≡ Some e) }
+{
+    let entry = entries[position as usize].clone()?;
+    Ok(entry)
 }
 
 /// What an operation is answered where the cut is here: a Read of a position below it is told so.

@@ -80,8 +80,9 @@ impl<D: Disk> FileLoglet<D> {
         ensures kind { IfOk result (λ made. made.loglet.kind ≡ File) }
         ensures limit { IfOk result (λ made. made.loglet.limit ≡ 2 ^ 62) }
         ensures disk { IfOk result (λ made. (made.server ≡ empty_server) × (made.disk.faults ≡ (D.view disk).faults) × (made.disk.word ≡ (D.view disk).word)) }
+        ensures running { IfOk result (λ made. made.disk.stopped ≡ false) }
         ensures spends { IfOk result (λ made. Spends 1 (D.view disk).armed made.disk.armed) }
-        ensures unasked { IfOk result (λ made. (made.refusals ≡ 0) × (made.asked ≡ record { told = 0; carries = 0; strays = 0; stops = 0; restarts = 0 })) }
+        ensures unasked { IfOk result (λ made. (made.answers ≡ []) × (made.refusals ≡ 0) × (made.asked ≡ record { told = 0; carries = 0; strays = 0; stops = 0; restarts = 0 })) }
 
         // Why the disk came back, and that it is as good as before, or failed.
         ensures memory { IfErr result (λ e. e.fault ≡ Fault.Memory → ((D.view e.disk).timeline ≡ (D.view disk).timeline) × ((D.view e.disk).faults ≡ (D.view disk).faults)) }
@@ -116,13 +117,14 @@ impl<D: Disk> FileLoglet<D> {
 }
 
 impl<D: Disk> Loglet for FileLoglet<D> {
-    ghost use Rattle.std.specs.Prelude.{OnOk};
+    ghost use Rattle.std.specs.Prelude.{OnOk, OnErr, None};
     ghost use Rattle.loglet_api.specs.Step.{CanCall, LogletStep};
     ghost use Rattle.loglet_api.specs.Servers.{Serves};
     ghost use Rattle.loglet_api.specs.Answers.{begin_answer, carry_answer, stray_answer, restart_answer};
     ghost use Rattle.quorum_cell.specs.Servers.{restarted};
     ghost use Rattle.file_loglet.specs.Later.{Wears};
-    ghost use Rattle.file_loglet.specs.File.{IsDecidedAtOnce, Counts, held_in, serving_of};
+    ghost use Rattle.file_loglet.specs.Pending.{PutsAnswer};
+    ghost use Rattle.file_loglet.specs.File.{IsDecidedAtOnce, IsAnswered, Takes, Counts, held_in, serving_of};
 
     ghost view = { λ v. v.loglet };
 
@@ -167,7 +169,7 @@ impl<D: Disk> Loglet for FileLoglet<D> {
         ensures step { LogletStep self.old.loglet (LogletCall.Begin op) (begin_answer result) self.new.loglet }
         ensures serves { Serves (serving_of self.old) (LogletCall.Begin op) (begin_answer result) (serving_of self.new) }
 
-        // Only a refusal as full is counted, and the server and its disk stay as they are.
+        // Only a refusal as full is counted; the server and its disk stay as they are, and what was answered.
         ensures counts { Counts self.old result self.new }
     {
         let size = self.entries.len() as u64;
@@ -200,6 +202,10 @@ impl<D: Disk> Loglet for FileLoglet<D> {
         ensures serves { Serves (serving_of self.old) (LogletCall.Carry ticket word) (carry_answer result) (serving_of self.new) }
         ensures at_once { OnOk result (IsDecidedAtOnce self.old.loglet ticket self.new.loglet) }
 
+        // It is answered by what the server is then: out of reach just where it is down.
+        ensures answered { OnOk result (IsAnswered self.old ticket self.new) }
+        ensures unanswered { OnErr result (self.new.answers ≡ self.old.answers) }
+
         // The disk counts each record that was written, or failed once; it is no refusal.
         ensures wears { Wears (held_in self.old) result (held_in self.new) }
         ensures refusals { self.new.refusals ≡ self.old.refusals }
@@ -222,7 +228,8 @@ impl<D: Disk> Loglet for FileLoglet<D> {
         requires { CanCall self.old.loglet (LogletCall.Take ticket) }
         ensures step { LogletStep self.old.loglet (LogletCall.Take ticket) (LogletAnswer.Taken result) self.new.loglet }
         ensures serves { Serves (serving_of self.old) (LogletCall.Take ticket) (LogletAnswer.Taken result) (serving_of self.new) }
-        ensures kept { self.new ≡ record self.old { loglet = self.new.loglet } }
+        ensures takes { Takes self.old ticket result self.new }
+        ensures kept { self.new ≡ record self.old { loglet = self.new.loglet; answers = self.new.answers } }
     {
         let Decided { task, size, answer } = take_decided(&mut self.pending, ticket.number())?;
         let answer = told(task, self.marks.cut, answer);
@@ -234,7 +241,8 @@ impl<D: Disk> Loglet for FileLoglet<D> {
         requires { CanCall self.old.loglet (LogletCall.Forget ticket) }
         ensures step { LogletStep self.old.loglet (LogletCall.Forget ticket) LogletAnswer.Forgotten self.new.loglet }
         ensures serves { Serves (serving_of self.old) (LogletCall.Forget ticket) LogletAnswer.Forgotten (serving_of self.new) }
-        ensures kept { self.new ≡ record self.old { loglet = self.new.loglet } }
+        ensures puts { PutsAnswer self.old.answers ticket None self.new.answers }
+        ensures kept { self.new ≡ record self.old { loglet = self.new.loglet; answers = self.new.answers } }
     {
         let _ = self.pending.remove(&ticket.number());
     }
@@ -268,6 +276,7 @@ impl<D: Disk> Loglet for FileLoglet<D> {
         ensures step { LogletStep self.old.loglet (LogletCall.Restart server word) (restart_answer result) self.new.loglet }
         ensures serves { Serves (serving_of self.old) (LogletCall.Restart server word) (restart_answer result) (serving_of self.new) }
         ensures refusals { self.new.refusals ≡ self.old.refusals }
+        ensures answers { self.new.answers ≡ self.old.answers }
 
         // It comes up with the write done or not in which its disk failed.
         ensures restarted { self.old.server.up ≡ false → IfOk result (λ up. up ≡ true → (kept : Bool) × (self.new.server ≡ restarted self.old.server kept self.old.server.torn)) }

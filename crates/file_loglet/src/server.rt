@@ -1,5 +1,5 @@
 //! The server of a file loglet.
-ghost use Rattle.std.specs.Prelude.{◌≡◌, ℕ, Bool, true, false, ◌^◌, ◌<◌, ◌≤◌, IfOk, IfErr, OnOk, IsOk, IsErrOf, [], if◌then◌else◌};
+ghost use Rattle.std.specs.Prelude.{◌≡◌, ℕ, Bool, true, false, ◌^◌, ◌<◌, ◌≤◌, IfOk, IfErr, IsOk, [], if◌then◌else◌};
 ghost use Rattle.delos_types.specs.Spelling.{IsSpellable};
 ghost use Rattle.disk_model.specs.Disk.{reads, IsSynced, bumped};
 ghost use Rattle.disk_model.specs.Armed.{Spends};
@@ -8,7 +8,7 @@ ghost use Rattle.journal_core.specs.Journal.{AnyCrashLeaves, LeavesRecords};
 ghost use Rattle.quorum_cell.specs.declared.message.Ask.TheVariants.{Store, Seal, Trim};
 ghost use Rattle.quorum_cell.specs.Servers.{length_of, is_sealed, writes, restarted};
 ghost use Rattle.server_records.specs.Spelled.{empty_server, server_of};
-ghost use Rattle.file_loglet.specs.Held.{ask_of, Changes, Writes, IsReopened, StaysDown};
+ghost use Rattle.file_loglet.specs.Held.{ask_of, Changes, Writes, Restores};
 
 use crate::extent::{Change, Extent};
 use delos_types::entry::Entry;
@@ -53,6 +53,7 @@ impl<D: Disk> FileServer<D> {
         ensures empty { IfOk result (λ s. s.server ≡ empty_server) }
         ensures no_fault { IfOk result (λ s. s.disk.faults ≡ (D.view disk).faults) }
         ensures word { IfOk result (λ s. s.disk.word ≡ (D.view disk).word) }
+        ensures running { IfOk result (λ s. s.disk.stopped ≡ false) }
         ensures spends { IfOk result (λ s. Spends 1 (D.view disk).armed s.disk.armed) }
         ensures memory { IfErr result (λ e. e.fault ≡ Fault.Memory → ((D.view e.disk).timeline ≡ (D.view disk).timeline) × ((D.view e.disk).faults ≡ (D.view disk).faults)) }
         ensures failed { IfErr result (λ e. e.fault ≡ Fault.Disk → (D.view e.disk).faults ≡ bumped (D.view disk).faults) }
@@ -162,12 +163,7 @@ impl<D: Disk> FileServer<D> {
     /// Brings up a server that is down. Its disk is reopened by the word, which may pick whether the torn write was done.
     pub fn restart(&mut self, word: u64) -> Result<(), Fault>
         requires down { self.old.server.up ≡ false }
-        ensures ok { OnOk result ((kept : Bool) × (self.new.server ≡ restarted self.old.server kept self.old.server.torn)) }
-        ensures no_fault { OnOk result (self.new.disk.faults ≡ self.old.disk.faults) }
-        ensures disarmed { OnOk result (self.new.disk.armed ≡ 0) }
-        ensures word { OnOk result (self.new.disk.word ≡ word) }
-        ensures memory { IsErrOf result Fault.Memory → IsReopened word self.old self.new }
-        ensures failed { IsErrOf result Fault.Disk → StaysDown word self.old self.new }
+        ensures { Restores word self.old result self.new }
     {
         let count = self.journal.count();
         self.journal.reopen(word)?;

@@ -3,7 +3,7 @@ use Rattle.file_loglet.specs.declared.marks.Marks.{Marks}
 use Rattle.file_loglet.specs.File.{FileView}
 use Rattle.file_loglet.proofs.Wholes.{step_whole, alike_whole}
 use Rattle.file_loglet.proofs.Serving.{still_served}
-use Rattle.file_loglet.proofs.Calls.{whole_refused, whole_begun, whole_unchanged, unchanged_shown}
+use Rattle.file_loglet.proofs.Calls.{whole_refused, whole_begun, whole_unchanged, unchanged_shown, counts_begun}
 use Rattle.file_loglet.proofs.file.FileLogletLoglet.begin.Goals as goal
 
 pub invariant_of-self : goal.invariant_of-self
@@ -55,3 +55,8 @@ pub returns-clause-serves : goal.returns-clause-serves
 returns-clause-serves g c =
     let i = c.self.inside in
     still_served i.room i.entries.items i.server i.marks i.pending c.add.new.entries.items c.begun-marks.result c.add.new.pending _ c.self.view_is (ap (λ (x : Marks). x.asked) c.begun-marks.ensures)
+
+pub returns-clause-counts : goal.returns-clause-counts
+returns-clause-counts g c =
+    let i = c.self.inside in
+    counts_begun i.room i.entries.items i.server i.marks c.begun-marks.result i.pending c.add.new.entries.items c.add.new.pending _ _ _ _ _ c.self.view_is c.self.invariant c.begun-marks.ensures c.in-Ok.ensures.pending refl

@@ -1,6 +1,6 @@
 use Rattle.std.proofs.Common.{refl}
 use Rattle.file_loglet.proofs.Wholes.{step_whole, alike_whole}
-use Rattle.file_loglet.proofs.Calls.{whole_taken, taken_small, size_small, whole_unchanged, unchanged_shown, undecided_whole}
+use Rattle.file_loglet.proofs.Calls.{whole_taken, taken_small, size_small, whole_unchanged, unchanged_shown, undecided_whole, takes_whole, waits_whole}
 use Rattle.file_loglet.proofs.file.FileLogletLoglet.take.Goals as goal
 
 pub invariant_of-self : goal.invariant_of-self
@@ -33,3 +33,15 @@ returns-clause-step g c =
     step_whole _ _ _ _ _ _ _ _ _ _ _ _ c.self.view_is c.self.invariant (invariant_of-self-2 g c) c.requires
     (whole_taken _ _ _ _ _ _ _ c.args.ticket c.in_ok-task.field-0 c.told-answer.result c.wanted.result c.self.invariant
     (rw c.number.ensures at c.in_ok-task.ensures.taken) c.told-answer.ensures c.wanted.ensures c.told-self-inside.ensures).1
+
+pub returns-in_err-task-clause-takes : goal.returns-in_err-task-clause-takes
+returns-in_err-task-clause-takes g c =
+    let i = c.self.inside in
+    rw c.from_residual.ensures
+    (waits_whole i.room i.entries.items i.server i.marks i.pending c.take_decided.new.pending _ c.args.ticket c.self.view_is (rw c.number.ensures at c.in_err-task.ensures.waits) c.in_err-task.ensures.none)
+
+pub returns-clause-takes : goal.returns-clause-takes
+returns-clause-takes g c =
+    let i = c.self.inside in
+    takes_whole i.room i.entries.items i.server i.marks c.told-self-inside.result i.pending c.take_decided.new.pending _ c.args.ticket c.in_ok-task.field-0 c.told-answer.result c.self.view_is
+    (rw c.number.ensures at c.in_ok-task.ensures.taken) c.told-answer.ensures
