@@ -1,5 +1,6 @@
 -- The calls of a file loglet, by its parts.
 use Rattle.std.proofs.Common.{◌≡◌, ℕ, ◌+◌, ◌-◌, ◌^◌, ◌<◌, ◌≤◌, ◌⊎◌, Bool, nat_eq, nat_lt, true, false, min, max, Option, Some, None, List, ◌++◌, length, is_some, map, drop, refl, inl, inr, ap, sym, ◌∙◌, subst, arith, length-append}
+use Rattle.std.specs.Prelude.{Result}
 use Rattle.std.specs.HashMap.{get, Updates, hash_map_len}
 use Rattle.std.proofs.lemmas.Bool.Decides.{nat_tests}
 use Rattle.delos_types.specs.declared.entry.Entry.{Entry}
@@ -21,8 +22,9 @@ use Rattle.file_loglet.specs.Held.{Held}
 use Rattle.file_loglet.specs.Later.{Copies, MayStand, IsLater, Wore, is_sealing}
 use Rattle.disk_model.specs.Disk.{bumped as disk_bumped}
 use Rattle.file_loglet.specs.Pending.{PendingMap, left_of, Fits, Answers, SetsAnswer, TakesOut, Waits, IsUnspoken, operation_of, shown_answer, answer_at, PutsAnswer, told_at}
+use Rattle.file_loglet.specs.Asking.{asks, Obeys}
 use Rattle.file_loglet.specs.State.{counted, down_of, state_of, loglet_of, IsPending, IsWhole}
-use Rattle.file_loglet.specs.File.{FileView, file_view, IsDecidedAtOnce, IsAnswered, IsTaken, Takes}
+use Rattle.file_loglet.specs.File.{FileView, file_view, IsDecidedAtOnce, IsAnswered, IsCarried, IsTaken, Takes, held_in}
 use Rattle.file_loglet.proofs.Told.{answered}
 use Rattle.file_loglet.proofs.Steps.{carries, decided_at_once, begin_all, refuses, file_faults, file_same, same_lists, take_all, small_taken, small_size, waits_undecided, slice_get-append, cut_rises}
 use Rattle.file_loglet.proofs.Maps.{shown_at, answer_in, answer_shown, puts_answer, adds_no_answer}
@@ -113,6 +115,19 @@ answered_whole room es xs old new marks marks' m n w t p y asked e at ex undecid
       down = down;
       up = up';
     }))
+
+-- what it asked of the server
+pub obeyed_whole : {U E : Type 0} (room : ℕ) (es xs : List Entry) (old new : Held) (marks marks' : Marks) (m n : PendingMap) (w : FileView) (t : ℕ) (p : Pending) (result : Result U E) → file_view room es old marks m ≡ w → get nat_eq m t ≡ Some p → xs ≡ es
+    → (old.server.up ≡ false → new ≡ old) → (IsUnspoken p.task p.firm → new ≡ old) → (¬ IsUnspoken p.task p.firm → old.server.up ≡ true → Obeys old.server (asks (drop marks.cut xs) marks.cut old.server p.size p.task) result new.server)
+    → IsCarried w t result (file_view room es new marks' n)
+obeyed_whole room es xs old new marks marks' m n w t p result e at ex idle unasked obeys =
+    subst (λ (x : FileView). IsCarried x t result (file_view room es new marks' n)) e (record {
+      operation = operation_of p;
+      is = shown_at m t p at;
+      idle = idle;
+      unasked = unasked;
+      obeys = subst (λ (zs : List Entry). ¬ IsUnspoken p.task p.firm → old.server.up ≡ true → Obeys old.server (asks (drop marks.cut zs) marks.cut old.server p.size p.task) result new.server) ex obeys;
+    })
 
 -- a want of memory shows nothing
 pub unmoved_shown : (room : ℕ) (es : List Entry) (old new : Held) (marks : Marks) (m : PendingMap) → new.server.up ≡ old.server.up → new.disk.faults ≡ old.disk.faults → is_sealed new.server ≡ is_sealed old.server → loglet_of (state_of room es new marks m) ≡ loglet_of (state_of room es old marks m)

@@ -1,5 +1,7 @@
 mod Writing
 mod Laters
+mod Heeding
+mod Stepping
 mod Maps
 mod Sound
 mod Told

@@ -16,6 +16,7 @@ use Rattle.file_loglet.specs.declared.marks.Asked.{Asked}
 use Rattle.file_loglet.specs.declared.marks.Marks.{Marks}
 use Rattle.file_loglet.specs.Held.{Held}
 use Rattle.file_loglet.specs.Pending.{PendingMap, IsUnspoken, shown_answer, answer_at, PutsAnswer, Answers, told_at}
+use Rattle.file_loglet.specs.Asking.{asks, Obeys}
 use Rattle.file_loglet.specs.State.{counted, down_of, state_of, loglet_of}
 
 -- A file loglet: what every loglet shows, what its open operations were answered, by ticket, its server, its disk, how many
@@ -88,6 +89,15 @@ pub record IsAnswered (old : FileView) (t : ℕ) (new : FileView) : Type 0 where
   pub unspoken : IsUnspoken operation.task operation.firm → answer ≡ Beyond operation.firm
   pub down : ¬ IsUnspoken operation.task operation.firm → new.server.up ≡ false → answer ≡ NoQuorum 1
   pub up : ¬ IsUnspoken operation.task operation.firm → new.server.up ≡ true → Answers new.loglet.log new.loglet.cut new.server operation operation.task answer
+
+-- A carry sends its operation's requests to the server, in turn, and nothing else. One that is down goes on by none, and a
+-- Read of a position of which no answer had spoken sends none.
+pub record IsCarried {U E : Type 0} (old : FileView) (t : ℕ) (result : Result U E) (new : FileView) : Type 0 where
+  pub operation : Operation
+  pub is : operation_at old.loglet.operations t ≡ Some operation
+  pub idle : old.server.up ≡ false → held_in new ≡ held_in old
+  pub unasked : IsUnspoken operation.task operation.firm → held_in new ≡ held_in old
+  pub obeys : ¬ IsUnspoken operation.task operation.firm → old.server.up ≡ true → Obeys old.server (asks old.loglet.log old.loglet.cut old.server operation.size operation.task) result new.server
 
 -- An answer that is taken is the one that was decided, unless the position of a Read is trimmed by now; the others stay.
 pub record IsTaken (old : FileView) (t : ℕ) (answer : Answer) (new : FileView) : Type 0 where

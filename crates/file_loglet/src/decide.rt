@@ -1,10 +1,12 @@
 //! What carrying an operation comes to.
-ghost use Rattle.std.specs.Prelude.{◌≡◌, ◌+◌, ◌^◌, ◌<◌, ◌≤◌, ℕ, Bool, true, false, if◌then◌else◌, List, length, drop, slice_get, Some, IfOk, OnOk, OnErr};
+ghost use Rattle.std.specs.Prelude.{◌≡◌, ◌+◌, ◌^◌, ◌<◌, ◌≤◌, ℕ, Bool, true, false, if◌then◌else◌, List, [], ◌∷◌, length, drop, slice_get, Some, IfOk, OnOk, OnErr};
 ghost use Rattle.delos_types.specs.Spelling.{IsSpellable};
 ghost use Rattle.delos_types.specs.declared.entry.Entry as given;
 ghost use Rattle.loglet_api.specs.declared.call.Answer.TheVariants.{Sealed};
 ghost use Rattle.quorum_cell.specs.Servers.{length_of, is_sealed};
+ghost use Rattle.quorum_cell.specs.declared.message.Ask.TheVariants.{Seal as AskSeal, Trim as AskTrim};
 ghost use Rattle.file_loglet.specs.Later.{IsLater, GoesOn, Wears, is_sealing};
+ghost use Rattle.file_loglet.specs.Asking.{asks, stores_up_to, Heeds, Obeys};
 ghost use Rattle.file_loglet.specs.Pending.{Answers, Fits, IsUnspoken, operation_of, told_at};
 
 use crate::pending::Pending;
@@ -47,6 +49,11 @@ pub fn decide<D: Disk>(
     ensures unspoken { IsUnspoken p.now.task p.now.firm → IfOk result (λ answer. answer ≡ Answer.Beyond p.now.firm) }
     ensures down { ¬ IsUnspoken p.now.task p.now.firm → server.new.server.up ≡ false → IfOk result (λ answer. answer ≡ Answer.NoQuorum 1) }
     ensures up { ¬ IsUnspoken p.now.task p.now.firm → server.new.server.up ≡ true → IfOk result (Answers (drop cut entries.now) cut server.new.server (operation_of p.now) p.now.task) }
+
+    // It did what the operation asks of it, and nothing else; where it isn't asked, it is as it was.
+    ensures idle { server.old.server.up ≡ false → server.new ≡ server.old }
+    ensures unasked { IsUnspoken p.now.task p.now.firm → server.new ≡ server.old }
+    ensures obeys { ¬ IsUnspoken p.now.task p.now.firm → server.old.server.up ≡ true → Obeys server.old.server (asks (drop cut entries.now) cut server.old.server p.now.size p.now.task) result server.new.server }
     ensures memory { OnErr result (is_sealed server.new.server ≡ is_sealed server.old.server) }
 {
     if p.is_unspoken() {
@@ -85,6 +92,7 @@ fn ask<D: Disk>(
     ensures goes_on { GoesOn server.old result server.new }
     ensures fits { IfOk result (Fits entries.now (length_of server.new.server) (is_sealed server.new.server) ⊥ p.now p.now.task) }
     ensures answers { IfOk result (Answers (drop cut entries.now) cut server.new.server (operation_of p.now) p.now.task) }
+    ensures heeds { Heeds server.old.server (asks (drop cut entries.now) cut server.old.server p.now.size p.now.task) result server.new.server }
 {
     match p.task {
         Task::Placing => store(server, entries, p.size + 1, Answer::Placed(p.size)),
@@ -111,6 +119,7 @@ fn store<D: Disk>(
     ensures later { (cut : ℕ) (sealing : Bool) → IsLater entries.now cut sealing server.old.server server.new.server }
     ensures goes_on { GoesOn server.old result server.new }
     ensures sealed { is_sealed server.new.server ≡ is_sealed server.old.server }
+    ensures heeds { Heeds server.old.server (stores_up_to (drop (length_of server.old.server) entries.now) (length_of server.old.server) end) result server.new.server }
     ensures stored { is_sealed server.old.server ≡ false → IfOk result (λ made. (made ≡ answer) × (end ≤ length_of server.new.server)) }
     ensures refused { is_sealed server.old.server ≡ true → IfOk result (λ made. made ≡ Sealed) }
 {
@@ -122,6 +131,7 @@ fn store<D: Disk>(
 }
 
 /// Stores the entries below a position, one record each.
+#[tactic(auto, using(crate::proofs::Heeding::goes_first))]
 fn store_up_to<D: Disk>(
     server: &mut FileServer<D>,
     entries: &[Entry],
@@ -135,6 +145,7 @@ fn store_up_to<D: Disk>(
     ensures later { (cut : ℕ) (sealing : Bool) → IsLater entries.now cut sealing server.old.server server.new.server }
     ensures goes_on { GoesOn server.old result server.new }
     ensures unsealed { is_sealed server.new.server ≡ false }
+    ensures heeds { Heeds server.old.server (stores_up_to (drop (length_of server.old.server) entries.now) (length_of server.old.server) end) result server.new.server }
     ensures stored { OnOk result (end ≤ length_of server.new.server) }
 {
     while server.length() < end {
@@ -156,11 +167,12 @@ fn tail<D: Disk>(server: &FileServer<D>) -> Answer
 }
 
 /// Seals a server that is up, where it isn't sealed.
-#[tactic(auto, using(crate::proofs::Laters::goes_same, crate::proofs::Laters::sealed_goes))]
+#[tactic(auto, using(crate::proofs::Laters::goes_same, crate::proofs::Laters::sealed_goes, crate::proofs::Heeding::heeds_sealed, crate::proofs::Heeding::heeds_seal))]
 fn seal<D: Disk>(server: &mut FileServer<D>) -> Result<Answer, Fault>
     requires up { server.old.server.up ≡ true }
     ensures later { (entries : List given.Entry) (cut : ℕ) → IsLater entries cut true server.old.server server.new.server }
     ensures goes_on { GoesOn server.old result server.new }
+    ensures heeds { Heeds server.old.server (AskSeal ∷ []) result server.new.server }
     ensures sealed { IfOk result (λ answer. (answer ≡ Answer.SealDone) × (is_sealed server.new.server ≡ true)) }
 {
     if !server.is_sealed() {
@@ -170,12 +182,13 @@ fn seal<D: Disk>(server: &mut FileServer<D>) -> Result<Answer, Fault>
 }
 
 /// Lets go of the entries below the cut, on a server that is up.
-#[tactic(auto, using(crate::proofs::Laters::trim_goes))]
+#[tactic(auto, using(crate::proofs::Laters::trim_goes, crate::proofs::Heeding::heeds_trim))]
 fn trim<D: Disk>(server: &mut FileServer<D>, cut: u64) -> Result<Answer, Fault>
     requires up { server.old.server.up ≡ true }
     requires within { cut ≤ length_of server.old.server }
     ensures later { (entries : List given.Entry) (top : ℕ) (sealing : Bool) → cut ≤ top → IsLater entries top sealing server.old.server server.new.server }
     ensures goes_on { GoesOn server.old result server.new }
+    ensures heeds { Heeds server.old.server (AskTrim cut ∷ []) result server.new.server }
     ensures trimmed { IfOk result (λ answer. (answer ≡ Answer.TrimDone) × (cut ≤ server.new.server.base)) }
 {
     server.trim(cut)?;

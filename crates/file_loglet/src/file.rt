@@ -124,7 +124,7 @@ impl<D: Disk> Loglet for FileLoglet<D> {
     ghost use Rattle.quorum_cell.specs.Servers.{restarted};
     ghost use Rattle.file_loglet.specs.Later.{Wears};
     ghost use Rattle.file_loglet.specs.Pending.{PutsAnswer};
-    ghost use Rattle.file_loglet.specs.File.{IsDecidedAtOnce, IsAnswered, Takes, Counts, held_in, serving_of};
+    ghost use Rattle.file_loglet.specs.File.{IsDecidedAtOnce, IsAnswered, IsCarried, Takes, Counts, held_in, serving_of};
 
     ghost view = { λ v. v.loglet };
 
@@ -205,6 +205,9 @@ impl<D: Disk> Loglet for FileLoglet<D> {
         // It is answered by what the server is then: out of reach just where it is down.
         ensures answered { OnOk result (IsAnswered self.old ticket self.new) }
         ensures unanswered { OnErr result (self.new.answers ≡ self.old.answers) }
+
+        // The server did what the operation asks of it, and nothing else.
+        ensures obeys { IsCarried self.old ticket result self.new }
 
         // The disk counts each record that was written, or failed once; it is no refusal.
         ensures wears { Wears (held_in self.old) result (held_in self.new) }

@@ -5,16 +5,19 @@
 //! - `extent`: how far the server has got, in numbers, and how a record changes that.
 //! - `decide`: what carrying an operation comes to.
 //! - `pending`: the open operations, by ticket.
+//! - `laws`: a carry is steps of a quorum cell of one server.
 //! - `marks`: what the loglet has told and counted.
 //! - `memory`: a file loglet on a disk in memory.
 //!
 //! The definitions stand in `specs/`: `File` (what a file loglet shows, and what ties its parts together), `State` (what
-//! holds of its fields), `Held` (what its server holds), `Later` (how the server goes on), `Pending` (open operations).
+//! holds of its fields), `Held` (what its server holds), `Later` (how the server goes on), `Asking`
+//! (what an operation asks of it), `Celling` (that as steps of a quorum cell), `Pending` (open operations).
 #![tactic(auto)]
 
 pub mod decide;
 pub mod extent;
 pub mod file;
+pub mod laws;
 pub mod marks;
 pub mod memory;
 pub mod pending;

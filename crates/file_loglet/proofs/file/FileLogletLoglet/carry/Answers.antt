@@ -5,7 +5,7 @@ use Rattle.file_loglet.specs.File.{IsDecidedAtOnce}
 use Rattle.file_loglet.proofs.Wholes.{open_whole, step_whole, alike_whole, asked_whole, asked_shown}
 use Rattle.file_loglet.proofs.Laters.{stuck_may_fail}
 use Rattle.file_loglet.proofs.Serving.{stuck_served, carried_served, wore_shown, stuck_shown}
-use Rattle.file_loglet.proofs.Calls.{pending_whole, whole_tried, whole_carried, carries_whole, at_once_whole, answered_whole, unmoved_shown, undecided_is_open}
+use Rattle.file_loglet.proofs.Calls.{pending_whole, whole_tried, whole_carried, carries_whole, at_once_whole, answered_whole, obeyed_whole, unmoved_shown, undecided_is_open}
 use Rattle.file_loglet.proofs.file.FileLogletLoglet.carry.Goals as goal
 
 pub index-requires : goal.index-requires
@@ -95,3 +95,15 @@ returns-clause-answered g c =
     answered_whole i.room i.entries.items c.as_slice.result.now i.server c.decide.new.server i.marks c.carried-self-inside.result i.pending c.set_answer.new.pending _ c.args.ticket c.index.result.now c.in-Ok.answer _ c.self.view_is
     (rw c.number-number.ensures at c.index.ensures) c.as_slice.ensures.value c.requires (rw c.number-number.ensures at c.set_answer.ensures) c.carried-self-inside.ensures
     c.in-Ok.ensures.unspoken c.in-Ok.ensures.down c.in-Ok.ensures.up
+
+pub returns-in_default-clause-obeys : goal.returns-in_default-clause-obeys
+returns-in_default-clause-obeys g c =
+    let i = c.self.inside in
+    obeyed_whole i.room i.entries.items c.as_slice.result.now i.server c.decide.new.server i.marks i.marks i.pending i.pending _ c.args.ticket c.index.result.now _ c.self.view_is
+    (rw c.number-number.ensures at c.index.ensures) c.as_slice.ensures.value c.in_default.ensures.idle c.in_default.ensures.unasked c.in_default.ensures.obeys
+
+pub returns-clause-obeys : goal.returns-clause-obeys
+returns-clause-obeys g c =
+    let i = c.self.inside in
+    obeyed_whole i.room i.entries.items c.as_slice.result.now i.server c.decide.new.server i.marks c.carried-self-inside.result i.pending c.set_answer.new.pending _ c.args.ticket c.index.result.now _ c.self.view_is
+    (rw c.number-number.ensures at c.index.ensures) c.as_slice.ensures.value c.in-Ok.ensures.idle c.in-Ok.ensures.unasked c.in-Ok.ensures.obeys
