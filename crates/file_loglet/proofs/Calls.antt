@@ -10,7 +10,7 @@ use Rattle.loglet_api.specs.declared.call.Op.{Op}
 use Rattle.loglet_api.specs.declared.call.Task.{Task}
 use Rattle.loglet_api.specs.declared.call.Task.TheVariants.{Placing, Settling, Finding, Sealing, Reading, Trimming}
 use Rattle.loglet_api.specs.View.{LogletView, operation_at, IsUndecided}
-use Rattle.loglet_api.specs.Step.{CanBegin, IsUndecidedAt, Carries, Begins, TakesAnswer, IsAppend, IsFull, RoseBy, bumped, entries_of, cut_by, seals_of, task_of, wanted_by, told_reach, told_firm, told_cap, told_lacks}
+use Rattle.loglet_api.specs.Step.{CanBegin, IsUndecidedAt, Carries, Begins, TakesAnswer, IsAppend, IsFull, bumped, entries_of, cut_by, seals_of, task_of, wanted_by, told_reach, told_firm, told_cap, told_lacks}
 use Rattle.quorum_cell.specs.declared.message.Ask.{Ask}
 use Rattle.quorum_cell.specs.declared.message.Ask.TheVariants.{Store, Seal, Tail, Repair, Read, Trim}
 use Rattle.quorum_cell.specs.Servers.{Server, length_of, is_sealed}
@@ -24,7 +24,7 @@ use Rattle.disk_model.specs.Disk.{bumped as disk_bumped}
 use Rattle.file_loglet.specs.Pending.{PendingMap, left_of, Fits, Answers, SetsAnswer, TakesOut, Waits, IsUnspoken, operation_of, shown_answer, answer_at, PutsAnswer, told_at}
 use Rattle.file_loglet.specs.Asking.{asks, Obeys}
 use Rattle.file_loglet.specs.State.{counted, down_of, state_of, loglet_of, IsPending, IsWhole}
-use Rattle.file_loglet.specs.File.{FileView, file_view, IsDecidedAtOnce, IsAnswered, IsCarried, IsTaken, Takes, held_in}
+use Rattle.file_loglet.specs.File.{FileView, file_view, IsDecidedAtOnce, IsAnswered, IsCarried, IsTaken, Takes}
 use Rattle.file_loglet.proofs.Told.{answered}
 use Rattle.file_loglet.proofs.Steps.{carries, decided_at_once, begin_all, refuses, file_faults, file_same, same_lists, take_all, small_taken, small_size, waits_undecided, slice_get-append, cut_rises}
 use Rattle.file_loglet.proofs.Maps.{shown_at, answer_in, answer_shown, puts_answer, adds_no_answer}

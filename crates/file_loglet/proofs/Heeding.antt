@@ -1,14 +1,14 @@
 -- How the server goes on by what an operation asks of it.
-use Rattle.std.proofs.Common.{◌≡◌, ℕ, zero, suc, ◌+◌, ◌-◌, ◌<◌, ◌≤◌, ◌⊎◌, Bool, nat_lt, true, false, Some, List, [], ◌∷◌, ◌++◌, length, drop, take, refl, inl, inr, ap, sym, ◌∙◌, subst, arith, length-append, zero-add}
+use Rattle.std.proofs.Common.{◌≡◌, ℕ, zero, suc, ◌+◌, ◌-◌, ◌<◌, ◌≤◌, true, false, Some, List, [], ◌∷◌, drop, take, refl, inl, inr, ap, sym, ◌∙◌, subst, arith, length-append, zero-add}
 use Rattle.std.specs.Prelude.{slice_get, Result, Ok, Err, IsOk}
 use Rattle.std.proofs.Math.Seq.{drop-nil}
 use Rattle.std.proofs.lemmas.Bool.Decides.{nat_tests}
-use Rattle.std.proofs.lemmas.Bool.{cases_Bool, cases_lt}
+use Rattle.std.proofs.lemmas.Bool.{cases_lt}
 use Rattle.delos_types.specs.declared.entry.Entry.{Entry}
 use Rattle.journal_core.specs.declared.fault.Fault.{Fault}
 use Rattle.journal_core.specs.declared.fault.Fault.TheVariants.{Disk, Memory}
 use Rattle.quorum_cell.specs.declared.message.Ask.{Ask}
-use Rattle.quorum_cell.specs.declared.message.Ask.TheVariants.{Store, Seal, Tail, Repair, Read, Trim}
+use Rattle.quorum_cell.specs.declared.message.Ask.TheVariants.{Store, Seal, Trim}
 use Rattle.quorum_cell.specs.Servers.{Server, length_of, is_sealed, writes, wrote, written}
 use Rattle.file_loglet.specs.Held.{Held, Writes}
 use Rattle.file_loglet.specs.Asking.{stores, stores_up_to, Follows, Begins, Heeds}

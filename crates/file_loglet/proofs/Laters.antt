@@ -1,5 +1,5 @@
 -- How the server goes on from write to write.
-use Rattle.std.proofs.Common.{◌≡◌, ℕ, zero, suc, ◌+◌, ◌-◌, ◌*◌, ◌<◌, ◌≤◌, ◌⊎◌, Bool, nat_lt, true, false, Some, List, [], ◌∷◌, ◌++◌, length, drop, get_or, refl, inl, inr, ap, sym, ◌∙◌, subst, arith, length-append, length-drop, zero-add}
+use Rattle.std.proofs.Common.{◌≡◌, ℕ, zero, suc, ◌+◌, ◌-◌, ◌<◌, ◌≤◌, ◌⊎◌, Bool, nat_lt, true, false, Some, List, [], ◌∷◌, ◌++◌, length, drop, get_or, refl, inl, inr, ap, sym, ◌∙◌, subst, arith, length-append, length-drop, zero-add}
 use Rattle.std.specs.Prelude.{slice_get, if◌then◌else◌, Result, Ok, Err, IsOk}
 use Rattle.std.proofs.lemmas.Bool.Decides.{nat_tests}
 use Rattle.std.proofs.lemmas.Bool.{cases_lt}
@@ -12,7 +12,7 @@ use Rattle.quorum_cell.specs.Servers.{Server, length_of, is_sealed, wrote}
 use Rattle.disk_model.specs.Disk.{DiskView, bumped}
 use Rattle.disk_model.specs.Armed.{Spends, TakesRecord}
 use Rattle.file_loglet.specs.Held.{Held, IsCalm, Fails, Writes}
-use Rattle.file_loglet.specs.Later.{Copies, MayStand, IsLater, records_between, TakesRecords, MaySpend, GoesOn, Wore, Stuck}
+use Rattle.file_loglet.specs.Later.{Copies, MayStand, IsLater, records_between, TakesRecords, GoesOn, Wore, Stuck}
 
 pub later_same : (entries : List Entry) (cut : ℕ) (sealing : Bool) (s : Server) → IsLater entries cut sealing s s
 later_same entries cut sealing s = record { rises = omega arith; still = λ h. (h, refl); seals = λ h. inl h; base = λ h. h; copies = λ h. h; torn = inl refl }

@@ -11,11 +11,11 @@ use Rattle.loglet_api.specs.declared.call.LogletCall.TheVariants.{Carry, Stray, 
 use Rattle.loglet_api.specs.declared.call.LogletAnswer.TheVariants.{Refusal, Carried, Strayed, Stopped, Restarted}
 use Rattle.loglet_api.specs.declared.call.Refused.TheVariants.{Memory}
 use Rattle.loglet_api.specs.Step.{bumped}
-use Rattle.loglet_api.specs.Servers.{ServerState, ServersView, Writes, TakesSome, GoesDown, Wears, ChangesAt, IsArmed, RestartsTo, MayReopen, Serves}
+use Rattle.loglet_api.specs.Servers.{ServerState, Writes, TakesSome, GoesDown, Wears, ChangesAt, IsArmed, RestartsTo, MayReopen, Serves}
 use Rattle.quorum_cell.specs.Servers.{Server, restarted}
 use Rattle.file_loglet.specs.declared.marks.Asked.{Asked}
 use Rattle.file_loglet.specs.declared.marks.Marks.{Marks}
-use Rattle.file_loglet.specs.Held.{Held, IsCalm, Fails, ComesUp, IsReopened, StaysDown, Brings}
+use Rattle.file_loglet.specs.Held.{Held, IsCalm, Fails, ComesUp, IsReopened, Brings}
 use Rattle.file_loglet.specs.Later.{Wore, Stuck}
 use Rattle.file_loglet.specs.Pending.{PendingMap}
 use Rattle.file_loglet.specs.File.{FileView, file_view, held_in, state_in, new_state, serving_of}

@@ -1,5 +1,5 @@
 -- Requests of an operation, as steps of a cell of one server.
-use Rattle.std.proofs.Common.{◌≡◌, ℕ, zero, suc, ◌+◌, ◌-◌, ◌<◌, ◌≤◌, ◌⊎◌, Bool, min, take, drop, set, get_or, true, false, not, ◌||◌, Option, Some, None, List, [], ◌∷◌, ◌++◌, length, is_some, refl, inl, inr, ap, sym, ◌∙◌, subst, arith, length-append}
+use Rattle.std.proofs.Common.{◌≡◌, ℕ, zero, suc, ◌+◌, ◌-◌, ◌<◌, ◌≤◌, Bool, min, take, drop, set, get_or, true, false, not, ◌||◌, Option, Some, None, List, [], ◌∷◌, ◌++◌, length, is_some, refl, inl, inr, ap, sym, ◌∙◌, subst, arith, length-append}
 use Rattle.std.specs.Prelude.{if◌then◌else◌, slice_get, option_map}
 use Rattle.std.proofs.Math.Seq.{drop-nil}
 use Rattle.std.proofs.lemmas.Bool.{cases_Bool}

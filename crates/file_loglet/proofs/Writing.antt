@@ -21,7 +21,7 @@ use Rattle.file_loglet.specs.Extents.{extent_of, extent_after, extent_restarted}
 use Rattle.journal_core.specs.declared.fault.Fault.{Fault}
 use Rattle.journal_core.specs.declared.fault.Fault.TheVariants.{Disk, Memory}
 use Rattle.disk_model.specs.Disk.{bumped}
-use Rattle.file_loglet.specs.Held.{Held, ask_by, ask_of, spelled, held_by, Changes, Tears, IsHeldBy, IsReopened, StaysDown, Restores}
+use Rattle.file_loglet.specs.Held.{Held, ask_by, ask_of, spelled, held_by, Changes, Tears, IsHeldBy, Restores}
 
 asks : (bytes : List ℕ) (r : Record) → SpellsRecord bytes r → ask_of bytes ≡ ask_by (Some r)
 asks bytes r s = ap ask_by (record_again bytes r s)

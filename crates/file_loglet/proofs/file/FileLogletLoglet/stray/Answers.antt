@@ -1,4 +1,3 @@
-use Rattle.std.proofs.Common.{refl}
 use Rattle.file_loglet.proofs.Steps.{moves_same}
 use Rattle.file_loglet.proofs.Wholes.{alike_whole, asked_whole, asked_shown}
 use Rattle.file_loglet.proofs.Serving.{strayed_served}
