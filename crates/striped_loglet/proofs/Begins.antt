@@ -37,7 +37,7 @@ module _ {L : Type 0} (view : L → LogletView) where
   pub reordered_state : (shape : Shape) (xs : List L) (marks : Marks) (m n : PendingMap L) → ((q : ℕ) → get nat_eq n q ≡ get nat_eq m q) → state_of view shape xs marks n ≡ state_of view shape xs marks m
   reordered_state shape xs marks m n e = ap (λ (at : ℕ → Option Plain). record { views = map view xs; shape = shape; marks = marks; at = at }) (reordered m n e)
 
-  puts_new : (m m1 n : PendingMap L) (t : ℕ) (p : Pending L) (plain : Plain) → ((q : ℕ) → get nat_eq m1 q ≡ get nat_eq m q) → Updates nat_eq m1 n t (Some p) → plain_of view p ≡ plain → Puts (plain_at view m) t (Some plain) (plain_at view n)
+  pub puts_new : (m m1 n : PendingMap L) (t : ℕ) (p : Pending L) (plain : Plain) → ((q : ℕ) → get nat_eq m1 q ≡ get nat_eq m q) → Updates nat_eq m1 n t (Some p) → plain_of view p ≡ plain → Puts (plain_at view m) t (Some plain) (plain_at view n)
   puts_new m m1 n t p plain e u same =
       subst (λ (x : Plain). Puts (plain_at view m) t (Some x) (plain_at view n)) same
       (subst (λ (at : ℕ → Option Plain). Puts at t (Some (plain_of view p)) (plain_at view n)) (reordered m m1 e) (puts_by view m1 n t (Some p) u))

@@ -1,6 +1,7 @@
 -- What the stripes of a striped loglet are handed.
-use Rattle.std.proofs.Common.{◌≡◌, ℕ, suc, ◌/◌, ◌%◌, ◌<◌, List, [], ◌∷◌, length, map, set, get_or, Some, refl, sym, ap, ◌∙◌, subst}
+use Rattle.std.proofs.Common.{◌≡◌, ℕ, suc, ◌/◌, ◌%◌, ◌<◌, List, [], ◌∷◌, length, map, set, get_or, Some, None, nat_eq, Option, refl, sym, ap, ◌∙◌, subst}
 use Rattle.std.specs.Prelude.{slice_get}
+use Rattle.std.specs.HashMap.{get}
 use Rattle.loglet_api.specs.declared.call.LogletCall.{LogletCall}
 use Rattle.loglet_api.specs.declared.call.LogletCall.TheVariants.{Stray}
 use Rattle.loglet_api.specs.declared.call.LogletAnswer.{LogletAnswer}
@@ -9,13 +10,17 @@ use Rattle.loglet_api.specs.Servers.{ServersView, Serves}
 use Rattle.striped_loglet.specs.declared.given.Given.{Given}
 use Rattle.striped_loglet.specs.declared.marks.Marks.{Marks}
 use Rattle.striped_loglet.specs.declared.shape.Shape.{Shape}
+use Rattle.striped_loglet.specs.declared.pending.Pending.{Pending}
+use Rattle.striped_loglet.specs.declared.stripe.Inner.{Inner}
 use Rattle.striped_loglet.specs.Shapes.{HasServer}
-use Rattle.striped_loglet.specs.State.{PendingMap}
-use Rattle.striped_loglet.specs.Servings.{ServesServer, ServesStray, CarriesAt, CarriesSome}
+use Rattle.striped_loglet.specs.State.{PendingMap, state_of, work_at, inner_of}
+use Rattle.striped_loglet.specs.Going.{IsStriped}
+use Rattle.striped_loglet.specs.Servings.{ServesServer, ServesStray, CarriesAt, CarriesFor}
 use Rattle.striped_loglet.specs.Striped.{StripedView, striped_view, serving_of}
 use Rattle.striped_loglet.proofs.Lists.{map_set}
-use Rattle.striped_loglet.proofs.Serving.{serving_at, served, carries_some}
+use Rattle.striped_loglet.proofs.Serving.{serving_at, served}
 use Rattle.striped_loglet.proofs.Wholes.{server_there}
+use Rattle.striped_loglet.proofs.Works.{inner_is}
 
 length_serving : {L : Type 0} (serving : L → ServersView) (xs : List L) → length (map serving xs) ≡ length xs
 length_serving serving [] = refl
@@ -56,11 +61,16 @@ module _ {L : Type 0} (view : L → LogletView) (serving : L → ServersView) wh
         rest = map_set serving xs i new ∙ ap (λ (n : ℕ). set (map serving xs) n (serving new)) place;
       })
 
-  pub same_handed : (shape : Shape) (xs : List L) (marks : Marks) (m : PendingMap L) (given : Given) (w : StripedView) (new : List ServersView) → striped_view view serving shape xs marks m given ≡ w → new ≡ map serving xs → new ≡ w.servings
-  same_handed shape xs marks m given w new e h = h ∙ ap (λ (v : StripedView). v.servings) e
+  -- the word is handed to what a stripe was doing for the operation
+  pub carry_handed : (shape : Shape) (xs : List L) (marks : Marks) (m : PendingMap L) (given : Given) (w : StripedView) (t : ℕ) (p : Pending L) (x : Inner) (word : ℕ) (answer : LogletAnswer) (new : List ServersView) → striped_view view serving shape xs marks m given ≡ w → IsStriped (state_of view shape xs marks m) → get nat_eq m t ≡ Some p → p.inner ≡ Some x
+      → CarriesAt (map serving xs) x.stripe x.ticket word answer new → CarriesFor w.servings (inner_of (work_at w.works t)) word answer new
+  carry_handed shape xs marks m given w t p x word answer new e k at mine h =
+      subst (λ (v : StripedView). CarriesFor v.servings (inner_of (work_at v.works t)) word answer new) e
+      (subst (λ (y : Option Inner). CarriesFor (map serving xs) y word answer new) (sym (inner_is view shape xs marks m t p (Some x) k at mine)) h)
 
-  pub carry_handed : (shape : Shape) (xs : List L) (marks : Marks) (m : PendingMap L) (given : Given) (w : StripedView) (i t word : ℕ) (answer : LogletAnswer) (new : List ServersView) → striped_view view serving shape xs marks m given ≡ w → CarriesAt (map serving xs) i t word answer new → CarriesSome w.servings word answer new
-  carry_handed shape xs marks m given w i t word answer new e h = subst (λ (v : StripedView). CarriesSome v.servings word answer new) e (carries_some (map serving xs) new i t word answer h)
-
-  pub refusals_from : (shape : Shape) (xs : List L) (marks : Marks) (m : PendingMap L) (given : Given) (w : StripedView) → striped_view view serving shape xs marks m given ≡ w → marks.refusals ≡ w.refusals
-  refusals_from shape xs marks m given w e = ap (λ (v : StripedView). v.refusals) e
+  -- .. or to none, where none was at work
+  pub idle_handed : (shape : Shape) (xs : List L) (marks : Marks) (m : PendingMap L) (given : Given) (w : StripedView) (t : ℕ) (p : Pending L) (word : ℕ) (answer : LogletAnswer) (new : List ServersView) → striped_view view serving shape xs marks m given ≡ w → IsStriped (state_of view shape xs marks m) → get nat_eq m t ≡ Some p → p.inner ≡ None
+      → new ≡ map serving xs → CarriesFor w.servings (inner_of (work_at w.works t)) word answer new
+  idle_handed shape xs marks m given w t p word answer new e k at mine h =
+      subst (λ (v : StripedView). CarriesFor v.servings (inner_of (work_at v.works t)) word answer new) e
+      (subst (λ (y : Option Inner). CarriesFor (map serving xs) y word answer new) (sym (inner_is view shape xs marks m t p None k at mine)) h)

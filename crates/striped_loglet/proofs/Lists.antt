@@ -4,7 +4,8 @@ use Rattle.std.specs.Prelude.{◌⊎◌, slice_get, if◌then◌else◌}
 use Rattle.std.proofs.lemmas.Bool.Decides.{nat_tests}
 use Rattle.std.proofs.lemmas.Bool.{cases_Bool, cases_lt}
 use Rattle.std.proofs.Math.Nat.{mul-le-mul_left}
-use Rattle.loglet_api.specs.View.{LogletView, Operation, operation_at}
+use Rattle.std.specs.Map.{lookup}
+use Rattle.loglet_api.specs.View.{LogletView}
 use Rattle.stripe_rule.specs.Stripes.{covered}
 use Rattle.striped_loglet.specs.Views.{total, any_shut, least_of}
 use Rattle.striped_loglet.specs.State.{open_below, put_first, sum_below}
@@ -144,30 +145,31 @@ sum_below_at f t (suc n) l =
     ]
 
 -- what a look-up finds among the open operations
-found_first : (q t : ℕ) (o : Option Operation) (rest : List (ℕ × Operation)) → operation_at (put_first t o rest) q ≡ (if nat_eq q t then (if is_some o then o else operation_at rest q) else operation_at rest q)
-found_first q t None rest = elim (cases_Bool (nat_eq q t)) [ inl s ↦ rw s refl | inr d ↦ rw d refl ]
-found_first q t (Some o) rest = elim (cases_Bool (nat_eq q t)) [ inl s ↦ rw s refl | inr d ↦ rw d refl ]
+module _ {A : Type 0} where
+  found_first : (q t : ℕ) (o : Option A) (rest : List (ℕ × A)) → lookup (nat_eq q) (put_first t o rest) ≡ (if nat_eq q t then (if is_some o then o else lookup (nat_eq q) rest) else lookup (nat_eq q) rest)
+  found_first q t None rest = elim (cases_Bool (nat_eq q t)) [ inl s ↦ rw s refl | inr d ↦ rw d refl ]
+  found_first q t (Some o) rest = elim (cases_Bool (nat_eq q t)) [ inl s ↦ rw s refl | inr d ↦ rw d refl ]
 
-pub open_above : (f : ℕ → Option Operation) (n q : ℕ) → n ≤ q → operation_at (open_below f n) q ≡ None
-open_above f zero q l = refl
-open_above f (suc n) q l = let d : nat_eq q n ≡ false = grind (arith, nat_tests) in found_first q n (f n) (open_below f n) ∙ rw d (open_above f n q (omega arith))
+  pub open_above : (f : ℕ → Option A) (n q : ℕ) → n ≤ q → lookup (nat_eq q) (open_below f n) ≡ None
+  open_above f zero q l = refl
+  open_above f (suc n) q l = let d : nat_eq q n ≡ false = grind (arith, nat_tests) in found_first q n (f n) (open_below f n) ∙ rw d (open_above f n q (omega arith))
 
-some_else : (o : Option Operation) (x : Option Operation) → x ≡ None → (if is_some o then o else x) ≡ o
-some_else None x e = e
-some_else (Some o) x e = refl
+  some_else : (o : Option A) (x : Option A) → x ≡ None → (if is_some o then o else x) ≡ o
+  some_else None x e = e
+  some_else (Some o) x e = refl
 
-open_within : (f : ℕ → Option Operation) (n q : ℕ) → q < n → operation_at (open_below f n) q ≡ f q
-open_within f zero q l = absurd (omega arith)
-open_within f (suc n) q l =
-    elim (same_or_not q n) [
-      | inl e ↦ (let s : nat_eq q n ≡ true = grind (arith, nat_tests) in
-          found_first q n (f n) (open_below f n) ∙ rw s (some_else (f n) (operation_at (open_below f n) q) (open_above f n q (omega arith))) ∙ ap f (sym e))
-      | inr d ↦ (let s : nat_eq q n ≡ false = grind (arith, nat_tests) in
-          found_first q n (f n) (open_below f n) ∙ rw s (open_within f n q (omega (arith, d))))
-    ]
+  open_within : (f : ℕ → Option A) (n q : ℕ) → q < n → lookup (nat_eq q) (open_below f n) ≡ f q
+  open_within f zero q l = absurd (omega arith)
+  open_within f (suc n) q l =
+      elim (same_or_not q n) [
+        | inl e ↦ (let s : nat_eq q n ≡ true = grind (arith, nat_tests) in
+            found_first q n (f n) (open_below f n) ∙ rw s (some_else (f n) (lookup (nat_eq q) (open_below f n)) (open_above f n q (omega arith))) ∙ ap f (sym e))
+        | inr d ↦ (let s : nat_eq q n ≡ false = grind (arith, nat_tests) in
+            found_first q n (f n) (open_below f n) ∙ rw s (open_within f n q (omega (arith, d))))
+      ]
 
-pub open_is : (f : ℕ → Option Operation) (n q : ℕ) → ((t : ℕ) → n ≤ t → f t ≡ None) → operation_at (open_below f n) q ≡ f q
-open_is f n q none = elim (cases_lt q n) [ inl l ↦ open_within f n q l | inr l ↦ open_above f n q l ∙ sym (none q l) ]
+  pub open_is : (f : ℕ → Option A) (n q : ℕ) → ((t : ℕ) → n ≤ t → f t ≡ None) → lookup (nat_eq q) (open_below f n) ≡ f q
+  open_is f n q none = elim (cases_lt q n) [ inl l ↦ open_within f n q l | inr l ↦ open_above f n q l ∙ sym (none q l) ]
 
 pub total_same : (f : LogletView → ℕ) (xs : List LogletView) (i : ℕ) (x y : LogletView) → slice_get xs i ≡ Some x → f y ≡ f x → total f (set xs i y) ≡ total f xs
 total_same f xs i x y h e = let all : total f (set xs i y) + f x ≡ total f xs + f y = total_set f xs i x y h in omega (arith, all, e)

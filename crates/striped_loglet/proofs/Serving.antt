@@ -10,7 +10,7 @@ use Rattle.loglet_api.specs.Answers.{carry_answer, stray_answer, restart_answer}
 use Rattle.loglet_api.specs.Servers.{ServerState, ServersView, downs_of, Wears, Wear, TakesSome, TakeSome, ChangesAt, IsArmed, RestartsTo, MayReopen, Serves}
 use Rattle.loglet_api.specs.Step.{bumped}
 use Rattle.striped_loglet.specs.declared.given.Given.{Given}
-use Rattle.striped_loglet.specs.Servings.{states_of, CarriesAt, CarriesOne, CarriesSome}
+use Rattle.striped_loglet.specs.Servings.{states_of, CarriesAt}
 use Rattle.striped_loglet.proofs.Lists.{map_get, map_set, set_back}
 use Rattle.striped_loglet.proofs.Places.{got_at}
 
@@ -211,10 +211,6 @@ carry_length vs ws i t word r (inl e) = same_states vs ws e
 carry_length vs ws i t word (Ok u) (inr h) = wear_length (states_of vs) (states_of ws) (worn vs ws i h.before h.after h.is h.rest h.serves.0)
 carry_length vs ws i t word (Err Memory) (inr h) = take_length (states_of vs) (states_of ws) (taken vs ws i h.before h.after h.is h.rest h.serves.0)
 carry_length vs ws i t word (Err Full) (inr h) = same_states vs ws (unworn vs ws i h.before h.after h.is h.rest h.serves)
-
-pub carries_some : (vs ws : List ServersView) (i t word : ℕ) (answer : LogletAnswer) → CarriesAt vs i t word answer ws → CarriesSome vs word answer ws
-carries_some vs ws i t word answer (inl e) = inl e
-carries_some vs ws i t word answer (inr h) = inr (i, t, h)
 
 -- .. and after a stray
 abbrev pub stray_given : {A : Type 0} → ℕ → Result A Refused → Given → Given

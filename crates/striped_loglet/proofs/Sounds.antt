@@ -14,7 +14,7 @@ use Rattle.striped_loglet.specs.declared.plan.Stage.{Stage}
 use Rattle.striped_loglet.specs.declared.plan.Stage.TheVariants.{First, Sealing, Last}
 use Rattle.striped_loglet.specs.declared.stripe.Inner.{Inner}
 use Rattle.striped_loglet.specs.Views.{total, least_of, entry_in, joined}
-use Rattle.striped_loglet.specs.State.{Plain, State, rounds_behind, to_begin, left_of, operation_of, shown_at, count_of, loglet_of}
+use Rattle.striped_loglet.specs.State.{Plain, State, rounds_behind, to_begin, left_of, operation_of, shown_at, count_of, loglet_of, work_of, works_of, work_at}
 use Rattle.striped_loglet.specs.Going.{IsPending, IsStriped}
 use Rattle.striped_loglet.proofs.Lists.{some_at, within, total_at, total_below, least_at, least_some, any_shut_at, shut_any, covered_later, open_is}
 use Rattle.striped_loglet.proofs.Joins.{joined_length, joined_has, log_there}
@@ -26,13 +26,16 @@ size_is s h = let l : length (joined s.views s.marks.cut (s.marks.size - s.marks
 pub first_stripe : (s : State) → IsStriped s → (v : LogletView) × (slice_get s.views 0 ≡ Some v)
 first_stripe s h = some_at s.views 0 (omega (arith, h.shaped.count.0))
 
-none_behind : (s : State) → IsStriped s → (t : ℕ) → s.marks.begun ≤ t → (x : Option Plain) → s.at t ≡ x → option_map (operation_of s.shape.turn (count_of s)) (s.at t) ≡ None
-none_behind s h t l None e = rw e refl
-none_behind s h t l (Some p) e = absurd (let below = (h.pending t p e).ticket in omega (arith, below))
+none_behind : {A : Type 0} (f : Plain → A) (s : State) → IsStriped s → (t : ℕ) → s.marks.begun ≤ t → (x : Option Plain) → s.at t ≡ x → option_map f (s.at t) ≡ None
+none_behind f s h t l None e = rw e refl
+none_behind f s h t l (Some p) e = absurd (let below = (h.pending t p e).ticket in omega (arith, below))
 
 -- the open operations, as a look-up finds them
 pub shown_is : (s : State) → IsStriped s → (q : ℕ) → operation_at (loglet_of s).operations q ≡ shown_at s.shape.turn (count_of s) s.at q
-shown_is s h q = open_is (shown_at s.shape.turn (count_of s) s.at) s.marks.begun q (λ t l. none_behind s h t l (s.at t) refl)
+shown_is s h q = open_is (shown_at s.shape.turn (count_of s) s.at) s.marks.begun q (λ t l. none_behind (operation_of s.shape.turn (count_of s)) s h t l (s.at t) refl)
+
+pub work_is : (s : State) → IsStriped s → (q : ℕ) → work_at (works_of s) q ≡ option_map work_of (s.at q)
+work_is s h q = open_is (λ t. option_map work_of (s.at t)) s.marks.begun q (λ t l. none_behind work_of s h t l (s.at t) refl)
 
 of_shown : (turn count : ℕ) (x : Option Plain) (o : Operation) → option_map (operation_of turn count) x ≡ Some o → (p : Plain) × (x ≡ Some p) × (operation_of turn count p ≡ o)
 of_shown turn count None o h = absurd (cc)

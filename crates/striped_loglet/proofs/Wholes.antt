@@ -242,11 +242,11 @@ module _ {L : Type 0} (view : L → LogletView) where
 
   -- ---- Carry
 
-  sets_puts : (m n : PendingMap L) (t : ℕ) (p : Pending L) (plan : Plan) (inner : Option Inner) (answer : Option Answer) → get nat_eq m t ≡ Some p → Sets m t plan inner answer n
+  pub sets_puts : (m n : PendingMap L) (t : ℕ) (p : Pending L) (plan : Plan) (inner : Option Inner) (answer : Option Answer) → get nat_eq m t ≡ Some p → Sets m t plan inner answer n
       → Puts (plain_at view m) t (Some (record (plain_of view p) { plan = plan; inner = inner; answer = answer })) (plain_at view n)
   sets_puts m n t p plan inner answer is h = puts_by view m n t (Some (record p { plan = plan; inner = inner; answer = answer })) (h p is)
 
-  heard_puts : (m n : PendingMap L) (t : ℕ) (p : Pending L) (heard : Heard) → get nat_eq m t ≡ Some p → Hears m t p.plan heard n → Puts (plain_at view m) t (Some (told_by (plain_of view p) heard)) (plain_at view n)
+  pub heard_puts : (m n : PendingMap L) (t : ℕ) (p : Pending L) (heard : Heard) → get nat_eq m t ≡ Some p → Hears m t p.plan heard n → Puts (plain_at view m) t (Some (told_by (plain_of view p) heard)) (plain_at view n)
   heard_puts m n t p (On plan) is h = sets_puts m n t p plan None None is h
   heard_puts m n t p (Decided answer) is h = sets_puts m n t p p.plan None (Some answer) is h
 
@@ -272,6 +272,10 @@ module _ {L : Type 0} (view : L → LogletView) where
   same_shown shape xs ys marks m n i before after' here same rest em =
       let e : map view ys ≡ map view xs = rest ∙ ap (λ v. set (map view xs) i v) same ∙ set_back (map view xs) i before here in
       ap (λ (views : List LogletView). record { views = views; shape = shape; marks = marks; at = plain_at view n }) e ∙ ap (λ (k : PendingMap L). state_of view shape xs marks k) em
+
+  pub refused_same : (shape : Shape) (xs ys : List L) (marks : Marks) (m n : PendingMap L) (x : Inner) (word : ℕ) (refused : Refused) → RefusedInner (map view xs) m x word refused (map view ys) n → state_of view shape ys marks n ≡ state_of view shape xs marks m
+  refused_same shape xs ys marks m n x word Memory r = same_shown shape xs ys marks m n x.stripe r.before r.after r.is r.carried.does r.rest r.same
+  refused_same shape xs ys marks m n x word Full r = absurd r.carried.does
 
   pub refused_inner : (shape : Shape) (xs ys : List L) (marks : Marks) (m n : PendingMap L) (t word : ℕ) (x : Inner) (refused : Refused) → IsStriped (state_of view shape xs marks m) → RefusedInner (map view xs) m x word refused (map view ys) n
       → IsStriped (state_of view shape ys marks n) × Does (loglet_of (state_of view shape xs marks m)) (Carry t word) (Refusal refused) (loglet_of (state_of view shape ys marks n))
@@ -300,11 +304,18 @@ module _ {L : Type 0} (view : L → LogletView) where
       carried_as s (plain_at view n) t word (map view xs) (map view ys) r.rest
       (carried_beyond s (plain_at view n) t (plain_of view p) h (at_by view m t p is) mine none r.unspoken (sets_puts m n t p p.plan None (Some (Beyond p.asked.firm)) is r.sets))
 
+  pub next_same : (shape : Shape) (xs ys : List L) (marks : Marks) (m n : PendingMap L) (t : ℕ) (p : Pending L) (course : Course) (refused : Refused) → IsStriped (state_of view shape xs marks m) → get nat_eq m t ≡ Some p → p.answer ≡ None → p.inner ≡ None → course ≡ record { asked = p.asked; plan = p.plan }
+      → RefusedNext (map view xs) m course marks.cut refused (map view ys) n → state_of view shape ys marks n ≡ state_of view shape xs marks m
+  next_same shape xs ys marks m n t p course Memory h is none mine ec r = same_shown shape xs ys marks m n r.stripe r.before r.after r.is r.step.does r.rest r.same
+  next_same shape xs ys marks m n t p course Full h is none mine ec r' =
+      let r : RefusedNext (map view xs) m (record { asked = p.asked; plan = p.plan }) marks.cut Full (map view ys) n = subst (λ (c : Course). RefusedNext (map view xs) m c marks.cut Full (map view ys) n) ec r' in
+      absurd (never_full (state_of view shape xs marks m) t (plain_of view p) r.stripe r.before h (at_by view m t p is) mine none r.is r.target r.step.does.0)
+
   pub refused_next : (shape : Shape) (xs ys : List L) (marks : Marks) (m n : PendingMap L) (t word : ℕ) (p : Pending L) (course : Course) (refused : Refused) → IsStriped (state_of view shape xs marks m) → get nat_eq m t ≡ Some p → p.answer ≡ None → p.inner ≡ None → course ≡ record { asked = p.asked; plan = p.plan }
       → RefusedNext (map view xs) m course marks.cut refused (map view ys) n
       → IsStriped (state_of view shape ys marks n) × Does (loglet_of (state_of view shape xs marks m)) (Carry t word) (Refusal refused) (loglet_of (state_of view shape ys marks n))
   refused_next shape xs ys marks m n t word p course Memory h is none mine ec r =
-      let e = same_shown shape xs ys marks m n r.stripe r.before r.after r.is r.step.does r.rest r.same in
+      let e = next_same shape xs ys marks m n t p course Memory h is none mine ec r in
       (subst IsStriped (sym e) h, ap loglet_of e)
   refused_next shape xs ys marks m n t word p course Full h is none mine ec r' =
       let r : RefusedNext (map view xs) m (record { asked = p.asked; plan = p.plan }) marks.cut Full (map view ys) n = subst (λ (c : Course). RefusedNext (map view xs) m c marks.cut Full (map view ys) n) ec r' in

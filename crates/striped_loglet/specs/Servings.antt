@@ -1,5 +1,5 @@
 -- The servers of a striped loglet: those of its stripes, one after another.
-use Rattle.std.specs.Prelude.{◌≡◌, ◌⊎◌, ℕ, ◌/◌, ◌%◌, Some, Result, Ok, Err, List, [], ◌∷◌, ◌++◌, length, set, slice_get}
+use Rattle.std.specs.Prelude.{◌≡◌, ◌⊎◌, ℕ, ◌/◌, ◌%◌, Option, None, Some, Result, Ok, Err, List, [], ◌∷◌, ◌++◌, length, set, slice_get}
 use Rattle.loglet_api.specs.declared.call.Refused.{Refused}
 use Rattle.loglet_api.specs.declared.call.LogletCall.{LogletCall}
 use Rattle.loglet_api.specs.declared.call.LogletCall.TheVariants.{Carry, Stray}
@@ -7,6 +7,7 @@ use Rattle.loglet_api.specs.declared.call.LogletAnswer.{LogletAnswer}
 use Rattle.loglet_api.specs.declared.call.LogletAnswer.TheVariants.{Refusal, Carried}
 use Rattle.loglet_api.specs.View.{LogletView}
 use Rattle.loglet_api.specs.Servers.{ServerState, ServersView, Serves}
+use Rattle.striped_loglet.specs.declared.stripe.Inner.{Inner}
 use Rattle.striped_loglet.specs.Shapes.{HasServer}
 
 -- the servers of all stripes
@@ -49,6 +50,8 @@ pub record CarriesOne (old : List ServersView) (i t word : ℕ) (answer : Loglet
 abbrev pub CarriesAt : List ServersView → ℕ → ℕ → ℕ → LogletAnswer → List ServersView → Type 0
 CarriesAt old i t word answer new = (new ≡ old) ⊎ CarriesOne old i t word answer new
 
--- What a carry of the loglet does to the servers of its stripes: it hands its word to one of them, once, or does nothing to any.
-abbrev pub CarriesSome : List ServersView → ℕ → LogletAnswer → List ServersView → Type 0
-CarriesSome old word answer new = (new ≡ old) ⊎ ((i : ℕ) × (t : ℕ) × CarriesOne old i t word answer new)
+-- What a carry does to the servers of the stripes, by what a stripe is doing for its operation: that is handed the word,
+-- once, or nothing is done to any where that was decided, or where no stripe is at work.
+abbrev pub CarriesFor : List ServersView → Option Inner → ℕ → LogletAnswer → List ServersView → Type 0
+CarriesFor old None word answer new = new ≡ old
+CarriesFor old (Some x) word answer new = CarriesAt old x.stripe x.ticket word answer new

@@ -2,6 +2,7 @@
 use Rattle.std.specs.Prelude.{ℕ, zero, suc, ◌+◌, ◌-◌, ◌*◌, ◌^◌, nat_eq, min, Option, None, Some, List, [], ◌∷◌, map, length}
 use Rattle.std.specs.Option.{option_map}
 use Rattle.std.specs.HashMap.{HashMap, get}
+use Rattle.std.specs.Map.{lookup}
 use Rattle.std.specs.declared.hash.FoldHasher.{FoldHasher}
 use Rattle.std.specs.declared.hash.BuildHasherDefault.{BuildHasherDefault}
 use Rattle.loglet_api.specs.declared.call.Answer.{Answer}
@@ -31,6 +32,13 @@ pub record State : Type 0 where
   -- the open operations, by ticket
   pub at : ℕ → Option Plain
 
+-- an open operation as contracts see it: what was asked, how far it has got, what a stripe is doing for it, its answer
+pub record Work : Type 0 where
+  pub asked : Asked
+  pub plan : Plan
+  pub inner : Option Inner
+  pub answer : Option Answer
+
 -- how many rounds follow
 abbrev pub rounds_behind : Stage → ℕ
 rounds_behind First = 2
@@ -55,12 +63,12 @@ operation_of turn count p =
 abbrev pub shown_at : ℕ → ℕ → (ℕ → Option Plain) → ℕ → Option Operation
 shown_at turn count at q = option_map (operation_of turn count) (at q)
 
-abbrev pub put_first : ℕ → Option Operation → List (ℕ × Operation) → List (ℕ × Operation)
+abbrev pub put_first : {A : Type 0} → ℕ → Option A → List (ℕ × A) → List (ℕ × A)
 put_first t None os = os
 put_first t (Some o) os = (t, o) ∷ os
 
 -- the open operations of tickets below this one, the latest first
-abbrev pub open_below : (ℕ → Option Operation) → ℕ → List (ℕ × Operation)
+abbrev pub open_below : {A : Type 0} → (ℕ → Option A) → ℕ → List (ℕ × A)
 open_below at zero = []
 open_below at (suc t) = put_first t (at t) (open_below at t)
 
@@ -103,6 +111,22 @@ loglet_of s = record {
   seals = s.marks.seals;
   lacks = s.marks.lacks;
 }
+
+abbrev pub work_of : Plain → Work
+work_of p = record { asked = p.asked; plan = p.plan; inner = p.inner; answer = p.answer }
+
+-- what is under way for each open operation, by ticket
+abbrev pub works_of : State → List (ℕ × Work)
+works_of s = open_below (λ q. option_map work_of (s.at q)) s.marks.begun
+
+-- what is under way for the operation of a ticket
+abbrev pub work_at : List (ℕ × Work) → ℕ → Option Work
+work_at works t = lookup (nat_eq t) works
+
+-- what a stripe is doing for an operation
+abbrev pub inner_of : Option Work → Option Inner
+inner_of None = None
+inner_of (Some w) = w.inner
 
 -- the open operations, by ticket
 abbrev pub PendingMap : Type 0 → Type 0

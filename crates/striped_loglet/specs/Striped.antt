@@ -5,7 +5,7 @@ use Rattle.loglet_api.specs.Servers.{ServersView}
 use Rattle.striped_loglet.specs.declared.given.Given.{Given}
 use Rattle.striped_loglet.specs.declared.marks.Marks.{Marks}
 use Rattle.striped_loglet.specs.declared.shape.Shape.{Shape}
-use Rattle.striped_loglet.specs.State.{PendingMap, counted, state_of, loglet_of}
+use Rattle.striped_loglet.specs.State.{Work, PendingMap, counted, state_of, loglet_of, works_of}
 use Rattle.striped_loglet.specs.Servings.{states_of}
 use Rattle.striped_loglet.specs.Views.{total}
 
@@ -15,6 +15,8 @@ pub record StripedView : Type 0 where
   pub stripes : List LogletView
   -- the servers of each stripe
   pub servings : List ServersView
+  -- what is under way for each open operation, by ticket
+  pub works : List (ℕ × Work)
   -- how many operations it refused as full itself
   pub refusals : ℕ
   -- the words that it was given
@@ -31,4 +33,4 @@ CountsFaults v = v.loglet.faults ≡ counted (total (λ s. s.faults) v.stripes) 
 module _ {L : Type 0} (view : L → LogletView) (serving : L → ServersView) where
   abbrev pub striped_view : Shape → List L → Marks → PendingMap L → Given → StripedView
   striped_view shape stripes marks pending given =
-      record { loglet = loglet_of (state_of view shape stripes marks pending); stripes = map view stripes; servings = map serving stripes; refusals = marks.refusals; given = given }
+      record { loglet = loglet_of (state_of view shape stripes marks pending); stripes = map view stripes; servings = map serving stripes; works = works_of (state_of view shape stripes marks pending); refusals = marks.refusals; given = given }

@@ -1,5 +1,5 @@
 //! A loglet in stripes.
-ghost use Rattle.std.specs.Prelude.{◌≡◌, ℕ, ◌+◌, ◌*◌, ◌/◌, ◌^◌, ◌<◌, ◌≤◌, map, length, slice_get, Some, true, IfSome};
+ghost use Rattle.std.specs.Prelude.{◌≡◌, ℕ, ◌+◌, ◌*◌, ◌/◌, ◌^◌, ◌<◌, ◌≤◌, map, length, slice_get, Some, true, IfSome, []};
 ghost use Rattle.loglet_api.specs.View.{LogletView, IsFresh, IsOpen};
 ghost use Rattle.loglet_api.specs.Sound.{IsSound};
 ghost use Rattle.loglet_api.specs.Step.{CanBegin, CanCall, LogletStep};
@@ -9,9 +9,10 @@ ghost use Rattle.striped_loglet.specs.Views.{total, least_of};
 ghost use Rattle.striped_loglet.specs.Shapes.{kind_by, most_of};
 ghost use Rattle.striped_loglet.specs.Plans.{heard_by, told_tail};
 ghost use Rattle.striped_loglet.specs.Calls.{CallsServer, Strays, Starts, Hears, CarriesInner, BeginsNext};
-ghost use Rattle.striped_loglet.specs.Servings.{ServesServer, ServesStray, CarriesAt, CarriesSome};
+ghost use Rattle.striped_loglet.specs.Servings.{ServesServer, ServesStray, CarriesAt, CarriesFor};
+ghost use Rattle.striped_loglet.specs.State.{work_at, inner_of};
 ghost use Rattle.striped_loglet.specs.Striped.{serving_of, CountsFaults};
-ghost use Rattle.striped_loglet.specs.Works.{BeginsBy};
+ghost use Rattle.striped_loglet.specs.Works.{BeginsBy, CarriesWork, TakesWork, ForgetsWork};
 
 use crate::given::Given;
 use crate::marks::Marks;
@@ -76,6 +77,7 @@ impl<L: Loglet> StripedLoglet<L> {
         ensures limit { result.loglet.limit ≡ least_of (map (λ v. v.limit) (map L.view inner.items)) / 4 }
         ensures stripes { result.stripes ≡ map L.view inner.items }
         ensures servings { result.servings ≡ map L.serving inner.items }
+        ensures works { result.works ≡ [] }
         ensures refusals { result.refusals ≡ 0 }
         ensures given { result.given ≡ record { told = 0; carries = 0; strays = 0 } }
         ensures faults { CountsFaults result }
@@ -172,8 +174,8 @@ impl<L: Loglet> Loglet for StripedLoglet<L> {
         requires { CanCall self.old.loglet (LogletCall.Carry ticket word) }
         ensures step { LogletStep self.old.loglet (LogletCall.Carry ticket word) (carry_answer result) self.new.loglet }
         ensures serves { Serves (serving_of self.old) (LogletCall.Carry ticket word) (carry_answer result) (serving_of self.new) }
-        ensures handed { CarriesSome self.old.servings word (carry_answer result) self.new.servings }
-        ensures refusals { self.new.refusals ≡ self.old.refusals }
+        ensures work { CarriesWork self.old ticket word result self.new }
+        ensures handed { CarriesFor self.old.servings (inner_of (work_at self.old.works ticket)) word (carry_answer result) self.new.servings }
         ensures faults { CountsFaults self.new }
     {
         let number = ticket.number();
@@ -206,7 +208,8 @@ impl<L: Loglet> Loglet for StripedLoglet<L> {
         requires { CanCall self.old.loglet (LogletCall.Take ticket) }
         ensures step { LogletStep self.old.loglet (LogletCall.Take ticket) (LogletAnswer.Taken result) self.new.loglet }
         ensures serves { Serves (serving_of self.old) (LogletCall.Take ticket) (LogletAnswer.Taken result) (serving_of self.new) }
-        ensures rest { self.new ≡ record self.old { loglet = self.new.loglet } }
+        ensures work { TakesWork self.old ticket result self.new }
+        ensures rest { self.new ≡ record self.old { loglet = self.new.loglet; works = self.new.works } }
         ensures faults { CountsFaults self.new }
     {
         let Decided { task, size, answer } = take_decided(&mut self.pending, ticket.number())?;
@@ -219,7 +222,7 @@ impl<L: Loglet> Loglet for StripedLoglet<L> {
         requires { CanCall self.old.loglet (LogletCall.Forget ticket) }
         ensures step { LogletStep self.old.loglet (LogletCall.Forget ticket) LogletAnswer.Forgotten self.new.loglet }
         ensures serves { Serves (serving_of self.old) (LogletCall.Forget ticket) LogletAnswer.Forgotten (serving_of self.new) }
-        ensures rest { self.new ≡ record self.old { loglet = self.new.loglet; stripes = self.new.stripes } }
+        ensures work { ForgetsWork self.old ticket self.new }
         ensures faults { CountsFaults self.new }
     {
         let number = ticket.number();

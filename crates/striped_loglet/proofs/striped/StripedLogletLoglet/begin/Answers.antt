@@ -117,4 +117,10 @@ returns-in_default-start-clause-stripe g c =
 pub returns-clause-stripe : goal.returns-clause-stripe
 returns-clause-stripe g c =
     let i = c.self.inside in
-    begun_works g.L.Loglet.view g.L.Loglet.serving i.shape i.stripes.items c.start.new.stripes.items i.marks c.begun-marks.result i.pending c.put.new.pending i.given _ c.args.op c.in-Ok-start.inner c.self.view_is c.self.invariant.0 c.in-Ok-start.ensures.step c.in-Ok-start.ensures.serves (ap (λ (z : Marks). z.refusals) c.begun-marks.ensures)
+    let view = g.L.Loglet.view in
+    rw c.new.ensures
+    (begun_works view g.L.Loglet.serving i.shape i.stripes.items c.start.new.stripes.items i.marks c.begun-marks.result i.pending c.reserve.new.self c.put.new.pending i.given _ c.args.op c.in-Ok-start.inner _ c.self.view_is c.self.invariant.0 (invariant_of-self-2 g c).0
+    c.in-Ok-start.ensures.step c.reserve.ensures.entries.2 c.put.ensures
+    (noted view (state_of view i.shape i.stripes.items i.marks i.pending) c.args.op (record { asked = record { task = c.task.result; size = i.marks.size; reach = i.marks.reach; firm = i.marks.firm; faults = c.faults.result; down = c.down.result }; before = c.of-before.result; plan = c.new-plan.result; inner = c.in-Ok-start.inner; answer = None }) c.in-Ok-start.inner c.task.ensures refl refl refl (c.faults.ensures ∙ sym (ap (λ (w : StripedView). w.loglet.faults) c.self.view_is)) (c.down.ensures.value ∙ sym (ap (λ (w : StripedView). w.loglet.down) c.self.view_is))
+    (ap (λ v. map view v.items) c.of-before.ensures) (c.new-plan.ensures ∙ ap first_plan c.task.ensures) refl refl)
+    c.in-Ok-start.ensures.serves (ap (λ (z : Marks). z.refusals) c.begun-marks.ensures))

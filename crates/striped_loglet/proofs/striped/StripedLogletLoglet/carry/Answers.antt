@@ -6,9 +6,10 @@ use Rattle.striped_loglet.specs.Servings.{states_of}
 use Rattle.striped_loglet.specs.declared.pending.Course.{Course}
 use Rattle.striped_loglet.proofs.Places.{length_view}
 use Rattle.striped_loglet.proofs.Bridge.{undecided_there, undecided_none, next_whole, size_whole, step_whole, waits_next, course_of}
-use Rattle.striped_loglet.proofs.Wholes.{inner_open, inner_done, refused_inner, next_carried, refused_next}
+use Rattle.striped_loglet.proofs.Wholes.{inner_open, inner_done, refused_same, refused_inner, next_carried, next_same, refused_next}
 use Rattle.striped_loglet.proofs.Serving.{served, carry_served, carry_length}
-use Rattle.striped_loglet.proofs.Handing.{serves_from, carry_handed, same_handed, refusals_from}
+use Rattle.striped_loglet.proofs.Handing.{serves_from, carry_handed, idle_handed}
+use Rattle.striped_loglet.proofs.Works.{inner_works, next_works, uncarried_works}
 use Rattle.striped_loglet.proofs.striped.StripedLogletLoglet.carry.Goals as goal
 
 pub index-requires : goal.index-requires
@@ -97,7 +98,7 @@ pub returns-in-Ok-clause-handed : goal.returns-in-Ok-clause-handed
 returns-in-Ok-clause-handed g c =
     let i = c.self.inside in
     let view = g.L.Loglet.view in
-    carry_handed view g.L.Loglet.serving i.shape i.stripes.items i.marks i.pending i.given _ c.in-Some.inner.stripe c.in-Some.inner.ticket c.args.word Carried _ c.self.view_is c.in-Ok.ensures.serves
+    carry_handed view g.L.Loglet.serving i.shape i.stripes.items i.marks i.pending i.given _ c.args.ticket c.index-2.result.now c.in-Some.inner c.args.word Carried _ c.self.view_is c.self.invariant.0 (rw c.number-number.ensures at c.index-2.ensures) c.in-Some.is c.in-Ok.ensures.serves
 
 pub invariant_of-self-in-Err : goal.invariant_of-self-in-Err
 invariant_of-self-in-Err g c =
@@ -124,7 +125,7 @@ pub returns-in-Err-clause-handed : goal.returns-in-Err-clause-handed
 returns-in-Err-clause-handed g c =
     let i = c.self.inside in
     let view = g.L.Loglet.view in
-    carry_handed view g.L.Loglet.serving i.shape i.stripes.items i.marks i.pending i.given _ c.in-Some.inner.stripe c.in-Some.inner.ticket c.args.word (Refusal c.in-Err.refused) _ c.self.view_is c.in-Err.ensures.serves
+    carry_handed view g.L.Loglet.serving i.shape i.stripes.items i.marks i.pending i.given _ c.args.ticket c.index-2.result.now c.in-Some.inner c.args.word (Refusal c.in-Err.refused) _ c.self.view_is c.self.invariant.0 (rw c.number-number.ensures at c.index-2.ensures) c.in-Some.is c.in-Err.ensures.serves
 
 pub invariant_of-self-in-Ok-begin_next : goal.invariant_of-self-in-Ok-begin_next
 invariant_of-self-in-Ok-begin_next g c =
@@ -157,7 +158,7 @@ pub returns-in-Ok-begin_next-clause-handed : goal.returns-in-Ok-begin_next-claus
 returns-in-Ok-begin_next-clause-handed g c =
     let i = c.self.inside in
     let view = g.L.Loglet.view in
-    inl (same_handed view g.L.Loglet.serving i.shape i.stripes.items i.marks i.pending i.given _ _ c.self.view_is c.in-Ok-begin_next.ensures.serves)
+    idle_handed view g.L.Loglet.serving i.shape i.stripes.items i.marks i.pending i.given _ c.args.ticket c.index-2.result.now c.args.word Carried _ c.self.view_is c.self.invariant.0 (rw c.number-number.ensures at c.index-2.ensures) c.in-None.is c.in-Ok-begin_next.ensures.serves
 
 pub invariant_of-self-in-Err-begin_next : goal.invariant_of-self-in-Err-begin_next
 invariant_of-self-in-Err-begin_next g c =
@@ -190,16 +191,43 @@ pub returns-in-Err-begin_next-clause-handed : goal.returns-in-Err-begin_next-cla
 returns-in-Err-begin_next-clause-handed g c =
     let i = c.self.inside in
     let view = g.L.Loglet.view in
-    inl (same_handed view g.L.Loglet.serving i.shape i.stripes.items i.marks i.pending i.given _ _ c.self.view_is c.in-Err-begin_next.ensures.serves)
+    idle_handed view g.L.Loglet.serving i.shape i.stripes.items i.marks i.pending i.given _ c.args.ticket c.index-2.result.now c.args.word (Refusal c.in-Err-begin_next.refused) _ c.self.view_is c.self.invariant.0 (rw c.number-number.ensures at c.index-2.ensures) c.in-None.is c.in-Err-begin_next.ensures.serves
 
-pub returns-in-Ok-clause-refusals : goal.returns-in-Ok-clause-refusals
-returns-in-Ok-clause-refusals g c = let i = c.self.inside in refusals_from g.L.Loglet.view g.L.Loglet.serving i.shape i.stripes.items i.marks i.pending i.given _ c.self.view_is
+pub returns-in-Ok-clause-work : goal.returns-in-Ok-clause-work
+returns-in-Ok-clause-work g c =
+    let i = c.self.inside in
+    let view = g.L.Loglet.view in
+    let at = rw c.number-number.ensures at c.index-2.ensures in
+    let none = undecided_none view g.L.Loglet.serving i.shape i.stripes.items i.marks i.pending _ c.args.ticket c.index-2.result.now c.self.view_is c.self.invariant.0 c.requires at in
+    let course = course_of view i.pending c.number-number.result c.index.result.now c.index-2.result.now c.course-course.result c.index.ensures c.index-2.ensures c.course-course.ensures in
+    inner_works view g.L.Loglet.serving {U = Unit {0}} i.shape i.stripes.items c.carry_inner.new.stripes.items i.marks i.pending c.carry_inner.new.pending i.given c.carried-self-inside.result _ c.args.ticket c.args.word c.index-2.result.now c.course-course.result c.in-Some.inner tt c.self.view_is c.self.invariant.0 (invariant_of-self g c).0
+    at none c.in-Some.is course (rw c.number-number.ensures at c.in-Ok.ensures.step)
 
-pub returns-in-Err-clause-refusals : goal.returns-in-Err-clause-refusals
-returns-in-Err-clause-refusals g c = let i = c.self.inside in refusals_from g.L.Loglet.view g.L.Loglet.serving i.shape i.stripes.items i.marks i.pending i.given _ c.self.view_is
+pub returns-in-Err-clause-work : goal.returns-in-Err-clause-work
+returns-in-Err-clause-work g c =
+    let i = c.self.inside in
+    let view = g.L.Loglet.view in
+    let at = rw c.number-number.ensures at c.index-2.ensures in
+    let none = undecided_none view g.L.Loglet.serving i.shape i.stripes.items i.marks i.pending _ c.args.ticket c.index-2.result.now c.self.view_is c.self.invariant.0 c.requires at in
+    uncarried_works view g.L.Loglet.serving {U = Unit {0}} i.shape i.stripes.items c.carry_inner.new.stripes.items i.marks i.pending c.carry_inner.new.pending i.given _ c.args.ticket c.args.word c.index-2.result.now c.in-Err.refused c.self.view_is c.self.invariant.0 at none
+    (refused_same view i.shape i.stripes.items c.carry_inner.new.stripes.items i.marks i.pending c.carry_inner.new.pending c.in-Some.inner c.args.word c.in-Err.refused c.in-Err.ensures.step)
 
-pub returns-in-Ok-begin_next-clause-refusals : goal.returns-in-Ok-begin_next-clause-refusals
-returns-in-Ok-begin_next-clause-refusals g c = let i = c.self.inside in refusals_from g.L.Loglet.view g.L.Loglet.serving i.shape i.stripes.items i.marks i.pending i.given _ c.self.view_is
+pub returns-in-Ok-begin_next-clause-work : goal.returns-in-Ok-begin_next-clause-work
+returns-in-Ok-begin_next-clause-work g c =
+    let i = c.self.inside in
+    let view = g.L.Loglet.view in
+    let at = rw c.number-number.ensures at c.index-2.ensures in
+    let none = undecided_none view g.L.Loglet.serving i.shape i.stripes.items i.marks i.pending _ c.args.ticket c.index-2.result.now c.self.view_is c.self.invariant.0 c.requires at in
+    let course = course_of view i.pending c.number-number.result c.index.result.now c.index-2.result.now c.course-course.result c.index.ensures c.index-2.ensures c.course-course.ensures in
+    next_works view g.L.Loglet.serving {U = Unit {0}} i.shape i.stripes.items c.begin_next.new.stripes.items i.marks i.pending c.begin_next.new.pending i.given c.carried-self-inside-in-Ok-begin_next.result _ c.args.ticket c.args.word c.index-2.result.now c.course-course.result tt c.self.view_is c.self.invariant.0 (invariant_of-self-in-Ok-begin_next g c).0
+    at none c.in-None.is course (rw c.number-number.ensures at c.in-Ok-begin_next.ensures.step)
 
-pub returns-in-Err-begin_next-clause-refusals : goal.returns-in-Err-begin_next-clause-refusals
-returns-in-Err-begin_next-clause-refusals g c = let i = c.self.inside in refusals_from g.L.Loglet.view g.L.Loglet.serving i.shape i.stripes.items i.marks i.pending i.given _ c.self.view_is
+pub returns-in-Err-begin_next-clause-work : goal.returns-in-Err-begin_next-clause-work
+returns-in-Err-begin_next-clause-work g c =
+    let i = c.self.inside in
+    let view = g.L.Loglet.view in
+    let at = rw c.number-number.ensures at c.index-2.ensures in
+    let none = undecided_none view g.L.Loglet.serving i.shape i.stripes.items i.marks i.pending _ c.args.ticket c.index-2.result.now c.self.view_is c.self.invariant.0 c.requires at in
+    let course = course_of view i.pending c.number-number.result c.index.result.now c.index-2.result.now c.course-course.result c.index.ensures c.index-2.ensures c.course-course.ensures in
+    uncarried_works view g.L.Loglet.serving {U = Unit {0}} i.shape i.stripes.items c.begin_next.new.stripes.items i.marks i.pending c.begin_next.new.pending i.given _ c.args.ticket c.args.word c.index-2.result.now c.in-Err-begin_next.refused c.self.view_is c.self.invariant.0 at none
+    (next_same view i.shape i.stripes.items c.begin_next.new.stripes.items i.marks i.pending c.begin_next.new.pending c.args.ticket c.index-2.result.now c.course-course.result c.in-Err-begin_next.refused c.self.invariant.0 at none c.in-None.is course c.in-Err-begin_next.ensures.step)

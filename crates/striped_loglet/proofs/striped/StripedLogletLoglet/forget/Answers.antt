@@ -1,11 +1,12 @@
-use Rattle.std.proofs.Common.{◌<◌, List, length, map, set, refl, ap, ◌∙◌, arith}
+use Rattle.std.proofs.Common.{◌≡◌, ◌<◌, List, length, map, set, Option, Some, None, refl, ap, ◌∙◌, arith}
+use Rattle.striped_loglet.specs.declared.stripe.Inner.{Inner}
 use Rattle.loglet_api.specs.Servers.{ServersView}
 use Rattle.striped_loglet.specs.Servings.{states_of}
 use Rattle.striped_loglet.proofs.Places.{got_at, view_at}
 use Rattle.striped_loglet.proofs.Bridge.{open_there, step_whole}
 use Rattle.striped_loglet.proofs.Wholes.{inner_open, forgotten_none, forgotten_some}
 use Rattle.striped_loglet.proofs.Serving.{kept_set, same_served}
-use Rattle.striped_loglet.proofs.Works.{rest_kept}
+use Rattle.striped_loglet.proofs.Works.{forgot_works, forgot_idle}
 use Rattle.striped_loglet.proofs.Handing.{same_from}
 use Rattle.striped_loglet.proofs.striped.StripedLogletLoglet.forget.Goals as goal
 
@@ -68,14 +69,19 @@ returns-clause-serves g c =
     let i = c.self.inside in
     same_from g.L.Loglet.view g.L.Loglet.serving i.shape i.stripes.items i.marks i.pending i.given _ _ c.self.view_is refl
 
-pub returns-in-Some-clause-rest : goal.returns-in-Some-clause-rest
-returns-in-Some-clause-rest g c =
+pub returns-in-Some-clause-work : goal.returns-in-Some-clause-work
+returns-in-Some-clause-work g c =
     let i = c.self.inside in
     let at = inner_open g.L.Loglet.view i.shape i.stripes.items i.marks i.pending c.number-number.result c.index.result.now c.in-Some.inner c.self.invariant.0 c.index.ensures c.in-Some.is in
-    rest_kept g.L.Loglet.view g.L.Loglet.serving i.shape i.stripes.items (set i.stripes.items c.in-Some.inner.stripe c.forget.new.self) i.marks i.marks i.pending c.remove.new.self i.given _ c.self.view_is
-    (kept_set g.L.Loglet.serving i.stripes.items c.in-Some.inner.stripe c.index_mut.result.now c.forget.new.self at.0 c.index_mut.ensures.value c.forget.ensures.serves) refl
+    rw c.number-number.ensures at
+    (forgot_works g.L.Loglet.view g.L.Loglet.serving i.shape i.stripes.items i.marks i.pending c.remove.new.self i.given _ c.number-number.result c.index.result.now c.in-Some.inner c.index_mut.result.now c.forget.new.self c.self.view_is c.self.invariant.0 (invariant_of-self g c).0 c.index.ensures c.in-Some.is at.0 c.index_mut.ensures.value c.forget.ensures.step c.forget.ensures.serves c.remove.ensures.updates)
 
-pub returns-clause-rest : goal.returns-clause-rest
-returns-clause-rest g c =
+none_else : (x : Option Inner) → ((y : Inner) → x ≡ Some y → ⊥) → x ≡ None
+none_else None h = refl
+none_else (Some y) h = absurd (h y refl)
+
+pub returns-clause-work : goal.returns-clause-work
+returns-clause-work g c =
     let i = c.self.inside in
-    rest_kept g.L.Loglet.view g.L.Loglet.serving i.shape i.stripes.items i.stripes.items i.marks i.marks i.pending c.remove-2.new.self i.given _ c.self.view_is refl refl
+    rw c.number-number.ensures at
+    (forgot_idle g.L.Loglet.view g.L.Loglet.serving i.shape i.stripes.items i.marks i.pending c.remove-2.new.self i.given _ c.number-number.result c.index.result.now c.self.view_is c.self.invariant.0 (invariant_of-self-2 g c).0 c.index.ensures (none_else c.index.result.now.inner c.in_default.not-Some) c.remove-2.ensures.updates)

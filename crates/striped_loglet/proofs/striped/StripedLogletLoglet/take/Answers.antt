@@ -3,7 +3,7 @@ use Rattle.striped_loglet.proofs.Wholes.{taken_whole, taken_small, size_small, l
 use Rattle.striped_loglet.proofs.Bridge.{step_whole, step_alike, same_state, same_striped, shows, waits_whole}
 use Rattle.striped_loglet.specs.State.{loglet_of, state_of}
 use Rattle.striped_loglet.specs.declared.marks.Marks.{Marks}
-use Rattle.striped_loglet.proofs.Works.{rest_taken}
+use Rattle.striped_loglet.proofs.Works.{taken_works, taken_rest, waited_works}
 use Rattle.striped_loglet.proofs.Handing.{same_from}
 use Rattle.striped_loglet.proofs.striped.StripedLogletLoglet.take.Goals as goal
 use Rattle.std.proofs.Common.{ap}
@@ -59,12 +59,23 @@ returns-clause-serves g c =
     let i = c.self.inside in
     same_from g.L.Loglet.view g.L.Loglet.serving i.shape i.stripes.items i.marks i.pending i.given _ _ c.self.view_is refl
 
+pub returns-in_err-task-clause-work : goal.returns-in_err-task-clause-work
+returns-in_err-task-clause-work g c =
+    let i = c.self.inside in
+    rw c.from_residual.ensures (waited_works g.L.Loglet.view g.L.Loglet.serving i.shape i.stripes.items i.marks i.pending c.take_decided.new.pending i.given _ c.self.view_is c.in_err-task.ensures.none)
+
+pub returns-clause-work : goal.returns-clause-work
+returns-clause-work g c =
+    let i = c.self.inside in
+    taken_works g.L.Loglet.view g.L.Loglet.serving i.shape i.stripes.items i.marks c.told-self-inside.result i.pending c.take_decided.new.pending i.given _ c.args.ticket c.in_ok-task.field-0 c.told-answer.result c.self.view_is c.self.invariant.0 (invariant_of-self-2 g c).0
+    (rw c.number.ensures at c.in_ok-task.ensures.taken) c.told-answer.ensures
+
 pub returns-in_err-task-clause-rest : goal.returns-in_err-task-clause-rest
 returns-in_err-task-clause-rest g c =
     let i = c.self.inside in
-    rest_taken g.L.Loglet.view g.L.Loglet.serving i.shape i.stripes.items i.marks i.marks i.pending c.take_decided.new.pending i.given _ c.self.view_is refl
+    taken_rest g.L.Loglet.view g.L.Loglet.serving i.shape i.stripes.items i.marks i.marks i.pending c.take_decided.new.pending i.given _ c.self.view_is refl
 
 pub returns-clause-rest : goal.returns-clause-rest
 returns-clause-rest g c =
     let i = c.self.inside in
-    rest_taken g.L.Loglet.view g.L.Loglet.serving i.shape i.stripes.items i.marks c.told-self-inside.result i.pending c.take_decided.new.pending i.given _ c.self.view_is (ap (λ (z : Marks). z.refusals) c.told-self-inside.ensures)
+    taken_rest g.L.Loglet.view g.L.Loglet.serving i.shape i.stripes.items i.marks c.told-self-inside.result i.pending c.take_decided.new.pending i.given _ c.self.view_is (ap (λ (z : Marks). z.refusals) c.told-self-inside.ensures)
