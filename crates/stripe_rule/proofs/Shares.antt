@@ -1,9 +1,10 @@
 -- A stripe's share of a length is the least number of its entries that covers the length.
-use Rattle.std.proofs.Common.{◌≡◌, ℕ, suc, ◌+◌, ◌-◌, ◌*◌, ◌/◌, ◌%◌, ◌<◌, ◌≤◌, ap, arith, inl, inr}
+use Rattle.std.proofs.Common.{◌≡◌, ℕ, zero, suc, ◌+◌, ◌-◌, ◌*◌, ◌/◌, ◌%◌, ◌<◌, ◌≤◌, ap, sym, subst, nat_eq, arith, inl, inr}
 use Rattle.std.specs.Prelude.{◌⊎◌}
-use Rattle.std.proofs.lemmas.Bool.{cases_lt}
+use Rattle.std.proofs.lemmas.Bool.{cases_lt, cases_Bool}
+use Rattle.std.proofs.lemmas.Bool.Decides.{nat_tests}
 use Rattle.std.proofs.Math.Nat.{mul-le-mul_left, div-add-mod, mod-lt}
-use Rattle.stripe_rule.specs.Stripes.{covered, share}
+use Rattle.stripe_rule.specs.Stripes.{covered, share, standing}
 
 -- a product that is below the next one has a factor that is no greater
 pub below_next : (m q n r : ℕ) → r < m → m * q ≤ m * n + r → q ≤ n
@@ -89,3 +90,22 @@ share_other m j length l other =
     antisym (share m j (suc length)) (share m j length)
     (share_least m j (suc length) (share m j length) l (covers_other m j (share m j length) length l other (share_covers m j length l)))
     (share_least m j length (share m j (suc length)) l (let c : suc length ≤ covered m j (share m j (suc length)) = share_covers m j (suc length) l in omega (arith, c)))
+
+share_none : (m j : ℕ) → j < m → share m j 0 ≡ 0
+share_none m j l = let a : share m j 0 ≤ 0 = share_least m j 0 0 l (omega arith) in omega (arith, a)
+
+-- a share counts the positions that stand in the stripe
+pub share_standing : (m j length : ℕ) → j < m → share m j length ≡ standing m j length
+share_standing m j zero l = share_none m j l
+share_standing m j (suc n) l =
+    let before : share m j n ≡ standing m j n = share_standing m j n l in
+    elim (cases_Bool (nat_eq (n % m) j)) [
+      | inl same ↦ (let e : n % m ≡ j = grind (arith, nat_tests) in
+          let some : 0 < m = omega arith in
+          let own : share m j n ≡ n / m = subst (λ (i : ℕ). share m i n ≡ n / m) e (share_own m n some) in
+          let next : share m j (suc n) ≡ suc (n / m) = subst (λ (i : ℕ). share m i (suc n) ≡ suc (n / m)) e (share_own_next m n some) in
+          rw same (omega (arith, before, own, next)))
+      | inr other ↦ (let apart : j ≡ n % m → ⊥ = (λ e. let back : n % m ≡ j = sym e in absurd (grind (arith, nat_tests))) in
+          let stays : share m j (suc n) ≡ share m j n = share_other m j n l apart in
+          rw other (omega (arith, before, stays)))
+    ]

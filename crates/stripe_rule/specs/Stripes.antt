@@ -1,5 +1,5 @@
 -- Positions in stripes: of m stripes, position p is index p / m of stripe p % m.
-use Rattle.std.specs.Prelude.{◌≡◌, ℕ, suc, ◌+◌, ◌-◌, ◌*◌, ◌/◌, ◌%◌, ◌<◌, ◌≤◌, min, List, [], ◌∷◌, length, get_or}
+use Rattle.std.specs.Prelude.{◌≡◌, ℕ, zero, suc, ◌+◌, ◌-◌, ◌*◌, ◌/◌, ◌%◌, ◌<◌, ◌≤◌, ◌==◌, if◌then◌else◌, min, List, [], ◌∷◌, length, get_or}
 
 -- the length up to which stripe j's first n entries cover all of its positions
 abbrev pub covered : ℕ → ℕ → ℕ → ℕ
@@ -8,6 +8,11 @@ covered m j n = m * n + j
 -- how many of the positions below a length stripe j has
 unfoldable pub share : ℕ → ℕ → ℕ → ℕ
 share m j length = (length + (m - suc j)) / m
+
+-- how many positions below a length stand in stripe j of m, one after another
+abbrev pub standing : ℕ → ℕ → ℕ → ℕ
+standing m j zero = 0
+standing m j (suc n) = standing m j n + (if n % m == j then 1 else 0)
 
 -- the greatest length that stripes j, j + 1, .. of these lengths cover, of m in all
 abbrev pub covered_from : ℕ → ℕ → List ℕ → ℕ

@@ -6,7 +6,7 @@
 #![tactic(auto)]
 
 ghost use Rattle.std.specs.Prelude.{◌≡◌, ℕ, suc, ◌+◌, ◌*◌, ◌/◌, ◌%◌, ◌^◌, ◌<◌, ◌≤◌, List, [], ◌∷◌, length};
-ghost use Rattle.stripe_rule.specs.Stripes.{covered as covered_by, share as share_of, striped, Covers, AllAtMost};
+ghost use Rattle.stripe_rule.specs.Stripes.{covered as covered_by, share as share_of, standing, striped, Covers, AllAtMost};
 
 /// The stripe that has this position.
 pub fn stripe_of(position: u64, count: u64) -> u64
@@ -58,4 +58,9 @@ pub fn share_is_least()
     ensures least { (m j length n : ℕ) → j < m → length ≤ covered_by m j n → share_of m j length ≤ n }
     ensures own { (m length : ℕ) → 0 < m → (share_of m (length % m) length ≡ length / m) × (share_of m (length % m) (suc length) ≡ suc (length / m)) }
     ensures other { (m j length : ℕ) → j < m → (j ≡ length % m → ⊥) → share_of m j (suc length) ≡ share_of m j length }
+{}
+
+/// The stripe's share of a length is how many of the positions below the length stand in it.
+pub fn share_counts()
+    ensures { (m j length : ℕ) → j < m → share_of m j length ≡ standing m j length }
 {}

@@ -68,7 +68,7 @@ module _ (p : Plain) (b : List LogletView) (h : shuts b ≡ shuts p.before) wher
   heard_as Finding m i v t = told_as p.plan.stage m i v t
   heard_as Sealing m i v t = t
   heard_as (Reading q) m i v t = tt
-  heard_as (Trimming n) m i v t = tt
+  heard_as (Trimming n) m i v t = t
 
   for_as : (task : Task) (m i : ℕ) (o : Operation) (inner : Task) → IsFor task p m i o inner → IsFor task (record p { before = b }) m i o inner
   for_as Placing m i o Placing t = t
@@ -93,6 +93,7 @@ module _ (p : Plain) (b : List LogletView) (h : shuts b ≡ shuts p.before) wher
       firm = a.firm;
       shut = λ y e t. let there = shut_at b p.before x.stripe y h e in a.shut there.0 there.1 (there.2 ∙ t);
       again = a.again;
+      trims = a.trims;
       lack = a.lack;
     }
 
@@ -131,7 +132,7 @@ module _ (p : Plain) (b : List LogletView) (h : shuts b ≡ shuts p.before) wher
     fits_as (Reading q) (Got e) f = f
     fits_as (Reading q) (CutAt n) f = f
     fits_as (Reading q) (NoQuorum u) f = (f.0, lacking_as u f.1)
-    fits_as (Trimming n) TrimDone f = tt
+    fits_as (Trimming n) TrimDone f = f
     fits_as task (NoQuorum u) f = lacking_as u f
     fits_as task answer f = absurd f
 
@@ -147,6 +148,7 @@ module _ (p : Plain) (b : List LogletView) (h : shuts b ≡ shuts p.before) wher
       faults = w.faults;
       down = w.down;
       sealing = w.sealing;
+      trimming = w.trimming;
       going = λ e. going_as (w.going e);
       alone = w.alone;
       told = λ a e. fits_as p.asked.task a (w.told a e);

@@ -1,5 +1,5 @@
 -- An operation of a stripe is carried, and the open one goes on by its answer.
-use Rattle.std.proofs.Common.{◌≡◌, inl, inr, ℕ, zero, suc, ◌+◌, ◌-◌, ◌*◌, ◌^◌, ◌<◌, ◌≤◌, List, [], ◌∷◌, length, set, Option, Some, None, nat_eq, true, false, refl, sym, ap, ◌∙◌, subst, arith}
+use Rattle.std.proofs.Common.{◌≡◌, inl, inr, ℕ, zero, suc, ◌+◌, ◌-◌, ◌*◌, ◌^◌, ◌<◌, ◌≤◌, List, [], ◌∷◌, length, set, Option, Some, None, nat_eq, true, false, refl, sym, ap, ◌∙◌, subst, arith, min}
 use Rattle.std.specs.Prelude.{◌⊎◌, slice_get}
 use Rattle.std.proofs.lemmas.Bool.Decides.{nat_tests}
 use Rattle.std.proofs.lemmas.Bool.{cases_Bool}
@@ -55,7 +55,7 @@ fits_as n p a (Reading q) (Beyond k) h = h
 fits_as n p a (Reading q) (Got e) h = h
 fits_as n p a (Reading q) (CutAt k) h = h
 fits_as n p a (Reading q) (NoQuorum u) h = (h.0, lacking_as n p a u h.1)
-fits_as n p a (Trimming k) TrimDone h = tt
+fits_as n p a (Trimming k) TrimDone h = h
 fits_as n p a task (NoQuorum u) h = lacking_as n p a u h
 fits_as n p a task answer h = absurd h
 
@@ -71,6 +71,7 @@ pub record Since (n : State) (t : ℕ) (p : Plain) : Type 0 where
   pub faults : p.asked.faults ≤ faults_of n
   pub down : RoseBy (down_of n - p.asked.down) p.asked.faults (faults_of n)
   pub sealing : p.asked.task ≡ Sealing → 1 ≤ n.marks.seals
+  pub trimming : (j : ℕ) → p.asked.task ≡ Trimming j → min j p.asked.reach ≤ n.marks.cut
 
 pub since_later : (s n : State) (ends : ℕ → ℕ → Type 0) (t : ℕ) (p : Plain) → Goes s n ends → IsPending s t p → Since n t p
 since_later s n ends t p g w =
@@ -85,6 +86,7 @@ since_later s n ends t p g w =
       faults = omega (arith, w.faults, g.faults);
       down = down_then p.asked.down (down_of s) (down_of n) p.asked.faults (faults_of s) (faults_of n) w.down g.down;
       sealing = λ e. (let old = w.sealing e in omega (arith, old, g.seals));
+      trimming = λ j e. (let old = w.trimming j e in omega (arith, old, g.cut));
     }
   where
     down_then : (a d n q f now : ℕ) → RoseBy (d - a) q f → RoseBy (n - d) f now → RoseBy (n - a) q now
@@ -103,6 +105,7 @@ decided_pending n t p answer w f =
       faults = w.faults;
       down = w.down;
       sealing = w.sealing;
+      trimming = w.trimming;
       going = λ e. absurd (cc);
       alone = λ a e. refl;
       told = λ a e. (let same : answer ≡ a = some_same answer a e in subst (λ (z : Answer). Fits n (record p { inner = None; answer = Some answer }) p.asked.task z) same (fits_as n p answer p.asked.task answer f));
@@ -124,6 +127,7 @@ going_pending n t p p' ea eb en w g =
       faults = rw ea w.faults;
       down = rw ea w.down;
       sealing = rw ea w.sealing;
+      trimming = rw ea w.trimming;
       going = λ e. g;
       alone = λ a e. absurd (let clash : None ≡ Some a = sym en ∙ e in cc);
       told = λ a e. absurd (let clash : None ≡ Some a = sym en ∙ e in cc);
@@ -309,7 +313,7 @@ heard_look p y Finding m i v h = by p.plan.stage refl h
     by Last e k = rw e (rw e at k)
 heard_look p y Sealing m i v h = h
 heard_look p y (Reading q) m i v h = tt
-heard_look p y (Trimming n) m i v h = tt
+heard_look p y (Trimming n) m i v h = h
 
 for_look : (p : Plain) (y : Inner) (task : Task) (m i : ℕ) (o : Operation) (mine : Task) → IsFor task p m i o mine → IsFor task (looked p y) m i o mine
 for_look p y Placing m i o Placing h = h
@@ -359,6 +363,7 @@ carried_going s at t word p x y v w h is mine nothing here carry same left u =
       firm = a.firm;
       shut = a.shut;
       again = a.again;
+      trims = a.trims;
       lack = a.lack;
     } in
     let asked' : IsAsked n (looked p y) y w = record {
@@ -372,6 +377,7 @@ carried_going s at t word p x y v w h is mine nothing here carry same left u =
       firm = rw stripe a.firm;
       shut = rw stripe a.shut;
       again = a.again;
+      trims = λ j e. rw stripe (a.trims j e);
       lack = a.lack;
     } in
     let going : IsGoing n (looked p y) = record {

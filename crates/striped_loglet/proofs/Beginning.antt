@@ -1,5 +1,5 @@
 -- An operation of a stripe begins for an open one.
-use Rattle.std.proofs.Common.{◌≡◌, ◌≢◌, inl, inr, ℕ, suc, ◌+◌, ◌-◌, ◌*◌, ◌<◌, ◌≤◌, [], length, drop, set, Option, Some, None, nat_eq, nat_lt, true, false, refl, sym, ap, ◌∙◌, subst, arith, min, length-append, length-drop}
+use Rattle.std.proofs.Common.{◌≡◌, ◌≢◌, inl, inr, ℕ, suc, ◌+◌, ◌-◌, ◌*◌, ◌<◌, ◌≤◌, [], length, drop, set, Option, Some, None, nat_eq, nat_lt, true, false, refl, sym, ap, ◌∙◌, subst, arith, min, max, length-append, length-drop}
 use Rattle.std.specs.Prelude.{◌⊎◌, slice_get, if◌then◌else◌}
 use Rattle.std.proofs.lemmas.Bool.Decides.{nat_tests}
 use Rattle.std.proofs.lemmas.Bool.{cases_Bool, cases_lt}
@@ -14,6 +14,7 @@ use Rattle.loglet_api.specs.Sound.{IsSound}
 use Rattle.loglet_api.specs.Step.{RoseBy, IsAtMost, IsBelow, Carries, Begins, HasLeft, IsAppend, IsFull, begun_operation, entries_of, cut_by, seals_of, task_of}
 use Rattle.loglet_api.specs.Keeps.{Keeps}
 use Rattle.stripe_rule.specs.Stripes.{share}
+use Rattle.stripe_rule.proofs.Shares.{share_least}
 use Rattle.striped_loglet.specs.declared.plan.Plan.{Plan}
 use Rattle.striped_loglet.specs.declared.plan.Stage.{Stage}
 use Rattle.striped_loglet.specs.declared.plan.Stage.TheVariants.{First, Last}
@@ -148,7 +149,7 @@ heard_as p count x Finding m i v h = told_as p.plan.stage refl h
     told_as Last e k = rw e (rw e at k)
 heard_as p count x Sealing m i v h = h
 heard_as p count x (Reading q) m i v h = tt
-heard_as p count x (Trimming n) m i v h = tt
+heard_as p count x (Trimming n) m i v h = h
 
 -- a stripe that was asked, but for the one that is under way, had answered before
 done_before : (p : Plain) (count : ℕ) (x : Inner) (task : Task) (i : ℕ) → p.asked.task ≡ task → x.stripe ≡ target_of task count p.plan → p.inner ≡ None → (i < next_behind task count p.plan.next) ⊎ IsOwn task p.asked.size count i → i ≢ x.stripe
@@ -223,6 +224,12 @@ going_begun s at t p v w x op h pend g none spoken is st eo ow b left goes =
       firm = rw goes.count (let a = ok.firm in let c = pend.firm in omega (arith, a, c));
       shut = λ c k s'. pend.shut x.stripe c v k is s';
       again = λ f l. g.all_shut f l x.stripe v is;
+      trims = λ j e. (let op_is : op ≡ Trim (share (count_of s) x.stripe s.marks.cut) = eo ∙ ap (λ (task : Task). asked_of task p.asked.size p.plan.stage s.marks.cut x.stripe (count_of s)) e in
+          let cut : w.cut ≡ cut_by op v.cut v.reach = ap (λ (z : LogletView). z.cut) b.rest in
+          let cut' : cut_by op v.cut v.reach ≡ max v.cut (min (share (count_of s) x.stripe s.marks.cut) v.reach) = ap (λ (o : Op). cut_by o v.cut v.reach) op_is in
+          let up : share (count_of s) x.stripe (min j p.asked.reach) ≤ share (count_of s) x.stripe s.marks.cut = share_rises (count_of s) x.stripe (min j p.asked.reach) s.marks.cut lt (pend.trimming j e) in
+          let low : share (count_of s) x.stripe s.marks.cut ≤ v.reach = share_least (count_of s) x.stripe s.marks.cut v.reach lt (let a = h.cut in let d = ok.reach in omega (arith, a, d)) in
+          rw goes.count (omega (arith, cut, cut', up, low)));
       lack = (let f : w.faults ≡ v.faults = ap (λ (z : LogletView). z.faults) b.rest in lack_here v.down p.asked.down v.faults w.faults (down_of s) p.asked.faults (faults_of s) (faults_of n) f most pend.down goes.faults);
     } in
     record {
@@ -294,6 +301,7 @@ pending_begun s at t p v w x op h pend g none spoken is st eo ow b left goes =
       faults = later.faults;
       down = later.down;
       sealing = later.sealing;
+      trimming = later.trimming;
       going = λ e. going_begun s at t p v w x op h pend g none spoken is st eo ow b left goes;
       alone = λ a e. absurd (cc);
       told = λ a e. absurd (cc);

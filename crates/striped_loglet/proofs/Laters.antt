@@ -89,6 +89,9 @@ lacking_later : (s n : State) (ends : ℕ → ℕ → Type 0) (p : Plain) (u : �
 lacking_later s n ends p u g h =
     record { enough = rw g.quorum h.enough; servers = rw g.shape h.servers; faults = rose_then (u - p.asked.down) p.asked.faults (faults_of s) (faults_of n) h.faults g.faults }
 
+trimmed_later : (m k i t a b : ℕ) → k ≡ m → a ≤ b → share m i t ≤ a → share k i t ≤ b
+trimmed_later m k i t a b e l h = rw e (omega (arith, l, h))
+
 pub fits_later : (s n : State) (ends : ℕ → ℕ → Type 0) (p : Plain) (task : Task) (answer : Answer) → Goes s n ends → Fits s p task answer → Fits n p task answer
 fits_later s n ends p Placing (Placed q) g h = (h.0, h.1, reach_later s n ends (p.asked.size + 1) g h.2)
 fits_later s n ends p Placing Sealed g h = one_shut_later s n ends g h
@@ -101,7 +104,7 @@ fits_later s n ends p (Reading q) (Beyond k) g h = h
 fits_later s n ends p (Reading q) (Got e) g h = (h.0, λ le. entry_later s n ends g q e le (h.1 (let c = g.cut in omega (arith, c, le))))
 fits_later s n ends p (Reading q) (CutAt k) g h = omega (arith, h, g.cut)
 fits_later s n ends p (Reading q) (NoQuorum u) g h = (h.0, lacking_later s n ends p u g h.1)
-fits_later s n ends p (Trimming k) TrimDone g h = tt
+fits_later s n ends p (Trimming k) TrimDone g h = λ i w is. (let b = g.back i w is in trimmed_later (count_of s) (count_of n) i (min k p.asked.reach) b.0.cut w.cut g.count b.2.cut (h i b.0 b.1))
 fits_later s n ends p task (NoQuorum u) g h = lacking_later s n ends p u g h
 fits_later s n ends p task answer g h = absurd h
 
@@ -116,7 +119,7 @@ heard_later (Settling n) p m k i v w e l h = (covered_later m k i v.reach w.reac
 heard_later Finding p m k i v w e l h = told_later p.plan.stage p m k i v w e l h
 heard_later Sealing p m k i v w e l h = l.shut h
 heard_later (Reading q) p m k i v w e l h = tt
-heard_later (Trimming n) p m k i v w e l h = tt
+heard_later (Trimming n) p m k i v w e l h = trimmed_later m k i (min n p.asked.reach) v.cut w.cut e l.cut h
 
 -- an operation that is still open is the same one, with less left
 pub record StaysOpen (o : Operation) (x : Option Operation) : Type 0 where
@@ -172,6 +175,7 @@ asked_later s n ends p x v w g at is le stays small a =
       firm = covered_later (count_of s) (count_of n) x.stripe a.operation.firm o.now.firm p.asked.firm g.count (let f = ap (λ (y : Operation). y.firm) e in omega (arith, f)) a.firm;
       shut = λ c is shut. ap (λ (y : Operation). y.shut) e ∙ a.shut c is shut;
       again = λ f l. ap (λ (y : Operation). y.shut) e ∙ a.again f l;
+      trims = λ j f. trimmed_later (count_of s) (count_of n) x.stripe (min j p.asked.reach) v.cut w.cut g.count keeps.cut (a.trims j f);
       lack = (let d = ap (λ (y : Operation). y.down) e in let f = ap (λ (y : Operation). y.faults) e in
           let all = more_lack (a.operation.down - p.asked.down) a.operation.faults v.faults w.faults p.asked.faults (faults_of s) (faults_of n) le a.lack (g.rises x.stripe v w at is) (small a) in
           lack_as (o.now.down) (a.operation.down) o.now.faults a.operation.faults p.asked.down w.faults p.asked.faults (faults_of n) d f all);
@@ -228,6 +232,7 @@ pending_later s n ends t p h g stays w =
       faults = omega (arith, w.faults, g.faults);
       down = down_then p.asked.down (down_of s) (down_of n) p.asked.faults (faults_of s) (faults_of n) w.down g.down;
       sealing = λ e. (let old = w.sealing e in omega (arith, old, g.seals));
+      trimming = λ j e. (let old = w.trimming j e in omega (arith, old, g.cut));
       going = λ e. going_later s n ends p h g stays (w.going e);
       alone = w.alone;
       told = λ x is. fits_later s n ends p p.asked.task x g (w.told x is);

@@ -1,5 +1,5 @@
 -- An operation begins.
-use Rattle.std.proofs.Common.{◌≡◌, ◌≢◌, inl, inr, ℕ, suc, ◌+◌, ◌-◌, ◌*◌, ◌/◌, ◌%◌, ◌<◌, ◌≤◌, ◌++◌, List, [], ◌∷◌, length, drop, map, set, Option, Some, None, is_some, Bool, nat_eq, nat_lt, true, false, refl, sym, ap, ◌∙◌, subst, arith, length-append}
+use Rattle.std.proofs.Common.{◌≡◌, ◌≢◌, inl, inr, ℕ, suc, ◌+◌, ◌-◌, ◌*◌, ◌/◌, ◌%◌, ◌<◌, ◌≤◌, ◌++◌, List, [], ◌∷◌, length, drop, map, set, Option, Some, None, is_some, Bool, nat_eq, nat_lt, true, false, refl, sym, ap, ◌∙◌, subst, arith, min, length-append}
 use Rattle.std.specs.Prelude.{◌⊎◌, slice_get, if◌then◌else◌}
 use Rattle.std.specs.Option.{option_map}
 use Rattle.std.proofs.lemmas.Bool.Decides.{nat_tests}
@@ -159,6 +159,15 @@ going_new s n op inner ends h g w =
       asks = w.asks;
     }
 
+-- a Trim's cut is at least what it is to let go of
+trimming_cuts : (op : Op) (j cut reach : ℕ) → task_of op ≡ Trimming j → min j reach ≤ cut_by op cut reach
+trimming_cuts (Trim k) j cut reach h = let same : k ≡ j = cc in rw same (omega arith)
+trimming_cuts (Append e) j cut reach h = absurd (cc)
+trimming_cuts (Settle n) j cut reach h = absurd (cc)
+trimming_cuts Tail j cut reach h = absurd (cc)
+trimming_cuts Seal j cut reach h = absurd (cc)
+trimming_cuts (Read p) j cut reach h = absurd (cc)
+
 pending_new : (s n : State) (op : Op) (inner : Option Inner) (ends : ℕ → ℕ → Type 0) → IsStriped s → Goes s n ends → n.marks ≡ begun_marks s.marks op → UnderWay s n op inner → IsPending n s.marks.begun (begun_plain s op inner)
 pending_new s n op inner ends h g em w =
     let begun : n.marks.begun ≡ s.marks.begun + 1 = ap (λ (m : Marks). m.begun) em in
@@ -175,6 +184,7 @@ pending_new s n op inner ends h g em w =
       faults = g.faults;
       down = g.down;
       sealing = λ e. (let a = sealing_counts op s.marks.seals e in omega (arith, a, seals));
+      trimming = λ j e. (let a = trimming_cuts op j s.marks.cut s.marks.reach e in let cut : n.marks.cut ≡ cut_by op s.marks.cut s.marks.reach = ap (λ (m : Marks). m.cut) em in omega (arith, a, cut));
       going = λ e. going_new s n op inner ends h g w;
       alone = λ a e. absurd (cc);
       told = λ a e. absurd (cc);
@@ -371,6 +381,7 @@ begun_append s e at x v w h free own here ow keeps b left u =
       firm = rw goes.count ok.firm;
       shut = λ c k s'. (let o : v ≡ c = some_view v c (sym here ∙ k) in ap (λ (z : LogletView). z.shut) o ∙ s');
       again = λ f l. absurd (cc);
+      trims = λ j f. absurd (cc);
       lack = (let part = total_at (λ z. z.down) s.views x.stripe v here in let a = goes.faults in none_lacks v.down (down_of s) v.faults w.faults (faults_of s) (faults_of n) faults part a);
     } in
     let way : UnderWay s n op (Some x) = record {

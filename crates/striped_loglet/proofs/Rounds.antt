@@ -98,7 +98,7 @@ heard_next p plan next Finding m i y h = by plan.stage refl h
     by Last e k = rw e (rw e at k)
 heard_next p plan next Sealing m i y h = h
 heard_next p plan next (Reading q) m i y h = tt
-heard_next p plan next (Trimming n) m i y h = tt
+heard_next p plan next (Trimming n) m i y h = h
 
 skipping : (n : State) (p : Plain) (plan : Plan) → HasRound n p plan → ((q : ℕ) → p.asked.task ≡ Reading q → ⊥) → skipped p.asked.task p.asked.size (count_of n) plan.next < count_of n
     → Comes n p (On (record plan { next = skipped p.asked.task p.asked.size (count_of n) plan.next }))
@@ -181,7 +181,7 @@ ends_round n p plan h l never (Settling k) e all = rw e ((λ i b is. (let y = wa
 ends_round n p plan h l never Finding e all = round_done n p plan h e all plan.stage refl
 ends_round n p plan h l never Sealing e all = rw e all
 ends_round n p plan h l never (Reading q) e all = absurd (never q e)
-ends_round n p plan h l never (Trimming k) e all = rw e tt
+ends_round n p plan h l never (Trimming k) e all = rw e all
 
 pub goes_on : (n : State) (p : Plain) (plan : Plan) → HasRound n p plan → ((q : ℕ) → p.asked.task ≡ Reading q → ⊥) → Comes n p (went_on p.asked.task p.asked.size (count_of n) plan)
 goes_on n p plan h never =

@@ -111,7 +111,7 @@ stands p plan Finding m i y es le h = by p.plan.stage refl h
     by Last e k = rw (es, e) (let z : HasTold Last p m i y = rw e at k in omega (arith, z, le))
 stands p plan Sealing m i y es le h = h
 stands p plan (Reading q) m i y es le h = tt
-stands p plan (Trimming n) m i y es le h = tt
+stands p plan (Trimming n) m i y es le h = h
 
 -- what a plan that goes on has to say of a Tail's length
 record IsTail (n : State) (p : Plain) (plan : Plan) : Type 0 where
@@ -329,7 +329,7 @@ seal_told s n p x v w o (NoQuorum u) h e m = subst (λ (z : Task). Fits n p z (N
 seal_told s n p x v w o answer h e m = absurd m
 
 trim_told : (s n : State) (p : Plain) (x : Inner) (v w : LogletView) (o : Operation) (answer : Answer) (j k : ℕ) → Answers s n p x v w o answer → p.asked.task ≡ Trimming j → MayAnswer v o (Trimming k) answer → Told n p x.stripe answer
-trim_told s n p x v w o TrimDone j k h e m = plainly s n p x v w o TrimDone h (λ i d. let clash : Trimming j ≡ Reading i = sym e ∙ d in cc) (rw e tt)
+trim_told s n p x v w o TrimDone j k h e m = plainly s n p x v w o TrimDone h (λ i d. let clash : Trimming j ≡ Reading i = sym e ∙ d in cc) (rw (e, h.goes.count, h.cut) (h.asked.trims j e))
 trim_told s n p x v w o (NoQuorum u) j k h e m = subst (λ (z : Task). Fits n p z (NoQuorum u)) (sym e) (lacking s n p x v w o (NoQuorum u) u h m)
 trim_told s n p x v w o answer j k h e m = absurd m
 

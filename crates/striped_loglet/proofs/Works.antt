@@ -1,21 +1,26 @@
 -- What becomes of the stripes' operations, and the rest of what is shown.
-use Rattle.std.proofs.Common.{◌≡◌, inl, inr, ℕ, ◌+◌, ◌-◌, ◌^◌, ◌<◌, List, length, map, set, get_or, Option, Some, None, Bool, true, false, nat_eq, refl, sym, ap, ◌∙◌, subst, min}
+use Rattle.std.proofs.Common.{◌≡◌, inl, inr, ℕ, ◌+◌, ◌-◌, ◌^◌, ◌<◌, ◌≤◌, List, length, map, set, get_or, Option, Some, None, Bool, true, false, nat_eq, refl, sym, ap, ◌∙◌, subst, min}
 use Rattle.std.specs.Prelude.{◌⊎◌, Ok, Err, if◌then◌else◌}
 use Rattle.std.specs.Option.{option_map}
 use Rattle.std.specs.HashMap.{get, Updates}
 use Rattle.loglet_api.specs.declared.call.Answer.{Answer}
-use Rattle.loglet_api.specs.declared.call.Answer.TheVariants.{Beyond}
+use Rattle.loglet_api.specs.declared.call.Answer.TheVariants.{Beyond, TrimDone, NoQuorum}
+use Rattle.loglet_api.specs.declared.call.Task.{Task}
+use Rattle.loglet_api.specs.declared.call.Task.TheVariants.{Placing, Settling, Finding, Sealing, Reading, Trimming}
 use Rattle.loglet_api.specs.declared.call.Op.{Op}
+use Rattle.loglet_api.specs.declared.call.Op.TheVariants.{Trim}
 use Rattle.loglet_api.specs.declared.call.Refused.{Refused}
 use Rattle.loglet_api.specs.declared.call.Refused.TheVariants.{Full}
-use Rattle.loglet_api.specs.declared.call.LogletCall.TheVariants.{Forget}
-use Rattle.loglet_api.specs.declared.call.LogletAnswer.TheVariants.{Forgotten}
-use Rattle.loglet_api.specs.View.{LogletView}
+use Rattle.loglet_api.specs.declared.call.LogletCall.TheVariants.{Carry, Forget}
+use Rattle.loglet_api.specs.declared.call.LogletAnswer.TheVariants.{Carried, Forgotten}
+use Rattle.loglet_api.specs.View.{LogletView, Operation, operation_at}
 use Rattle.loglet_api.specs.Servers.{ServersView}
-use Rattle.loglet_api.specs.Step.{LogletStep, task_of, bumped}
+use Rattle.loglet_api.specs.Step.{LogletStep, MayAnswer, Advances, task_of}
 use Rattle.striped_loglet.specs.declared.given.Given.{Given}
 use Rattle.striped_loglet.specs.declared.marks.Marks.{Marks}
 use Rattle.striped_loglet.specs.declared.shape.Shape.{Shape}
+use Rattle.stripe_rule.proofs.Shares.{share_standing}
+use Rattle.striped_loglet.specs.declared.plan.Stage.{Stage}
 use Rattle.striped_loglet.specs.declared.plan.Heard.{Heard}
 use Rattle.striped_loglet.specs.declared.plan.Heard.TheVariants.{On, Decided}
 use Rattle.striped_loglet.specs.declared.stripe.Inner.{Inner}
@@ -24,14 +29,14 @@ use Rattle.striped_loglet.specs.declared.stripe.Outcome.TheVariants.{Going, Answ
 use Rattle.striped_loglet.specs.declared.pending.Pending.{Pending}
 use Rattle.striped_loglet.specs.declared.pending.Course.{Course}
 use Rattle.striped_loglet.specs.declared.pending.Decided.{Decided as DecidedOne}
-use Rattle.striped_loglet.specs.Plans.{first_plan, heard_by, plan_behind, told_at}
-use Rattle.striped_loglet.specs.Calls.{Starts, CarriedInner, BegunNext, IsBeyond, Hears, HearsOf}
-use Rattle.striped_loglet.specs.Pendings.{Sets, TakesOut}
-use Rattle.striped_loglet.specs.State.{Plain, State, Work, PendingMap, plain_of, plain_at, state_of, loglet_of, work_of, works_of, work_at, inner_of, faults_of, down_of}
-use Rattle.striped_loglet.specs.Going.{IsStriped}
+use Rattle.striped_loglet.specs.Plans.{first_plan, asked_of, heard_by, plan_behind, told_at}
+use Rattle.striped_loglet.specs.Calls.{Starts, CarriedOn, CarriedInner, BegunNext, IsBeyond, Hears, HearsOf}
+use Rattle.striped_loglet.specs.Pendings.{TakesOut}
+use Rattle.striped_loglet.specs.State.{Plain, State, Work, PendingMap, plain_of, state_of, loglet_of, work_of, works_of, work_at, inner_of, count_of, faults_of, down_of}
+use Rattle.striped_loglet.specs.Going.{IsFor, IsAsked, Fits, IsStriped}
 use Rattle.striped_loglet.specs.Striped.{StripedView, striped_view}
-use Rattle.striped_loglet.specs.Works.{PutsWork, begun_work, BeginsOn, BeginsBy, heard_work, carried_work, GoesOn, AsksNext, TellsBeyond, CarriesBy, CarriesWork, TakesOne, ForgetsAt, ForgetsInner, ForgetsWork}
-use Rattle.striped_loglet.proofs.Lists.{map_set}
+use Rattle.striped_loglet.specs.Works.{PutsWork, AsksShare, LetsGo, IsTrimmed, begun_work, BeginsOn, BeginsBy, heard_work, carried_work, GoesOn, AsksNext, TellsBeyond, CarriesBy, CarriesWork, TakesOne, ForgetsAt, ForgetsInner, ForgetsWork}
+use Rattle.striped_loglet.proofs.Lists.{map_set, within}
 use Rattle.striped_loglet.proofs.Places.{view_at}
 use Rattle.striped_loglet.proofs.Sounds.{size_is, work_is}
 use Rattle.striped_loglet.proofs.Carried.{Puts}
@@ -51,6 +56,56 @@ same_rest l vs ss ss' ws r r' given es er = ap (λ (x : List ServersView). shown
 map_if : (b : Bool) (x y : Option Plain) → option_map work_of (if b then x else y) ≡ (if b then option_map work_of x else option_map work_of y)
 map_if true x y = refl
 map_if false x y = refl
+
+-- ---- Trim
+
+asks_share : (task : Task) (size : ℕ) (stage : Stage) (reach cut stripe count : ℕ) → stripe < count → ((n : ℕ) → task ≡ Trimming n → min n reach ≤ cut) → AsksShare task reach cut stripe count (asked_of task size stage cut stripe count)
+asks_share (Trimming n) size stage reach cut stripe count l h = (ap (λ (k : ℕ). Trim k) (share_standing count stripe cut l), h n refl)
+asks_share Placing size stage reach cut stripe count l h = tt
+asks_share (Settling n) size stage reach cut stripe count l h = tt
+asks_share Finding size stage reach cut stripe count l h = tt
+asks_share Sealing size stage reach cut stripe count l h = tt
+asks_share (Reading q) size stage reach cut stripe count l h = tt
+
+lets_go : (v : LogletView) (p : Plain) (m i : ℕ) (a o : Operation) (task mine : Task) (answer : Answer) → IsFor task p m i a mine → MayAnswer v o mine answer → LetsGo task (Answered answer)
+lets_go v p m i a o (Trimming n) (Trimming k) TrimDone f h = tt
+lets_go v p m i a o (Trimming n) (Trimming k) (NoQuorum u) f h = tt
+lets_go v p m i a o (Trimming n) (Trimming k) answer f h = absurd h
+lets_go v p m i a o (Trimming n) Placing answer f h = absurd f
+lets_go v p m i a o (Trimming n) (Settling k) answer f h = absurd f
+lets_go v p m i a o (Trimming n) Finding answer f h = absurd f
+lets_go v p m i a o (Trimming n) Sealing answer f h = absurd f
+lets_go v p m i a o (Trimming n) (Reading q) answer f h = absurd f
+lets_go v p m i a o Placing mine answer f h = tt
+lets_go v p m i a o (Settling k) mine answer f h = tt
+lets_go v p m i a o Finding mine answer f h = tt
+lets_go v p m i a o Sealing mine answer f h = tt
+lets_go v p m i a o (Reading q) mine answer f h = tt
+
+some_operation : (a c : Operation) → Some a ≡ Some c → a ≡ c
+some_operation a c e = cc
+
+-- the operation that is carried stays what it is
+same_task : (a : Operation) (x : Option Operation) (o : Operation) → Advances (Some a) x → x ≡ Some o → o.task ≡ a.task
+same_task a None o h e = absurd h
+same_task a (Some c) o h e = sym (ap (λ (z : Operation). z.task) (some_operation c o e)) ∙ ap (λ (z : Operation). z.task) h.0
+
+trims_go : (s : State) (p : Plain) (x : Inner) (before after : LogletView) (word : ℕ) (outcome : Outcome) → IsAsked s p x before → CarriedOn before x word (Ok outcome) after → LetsGo p.asked.task outcome
+trims_go s p x before after word (Going y) a c = tt
+trims_go s p x before after word (Answered answer) a c =
+    let mid = c.0 in
+    let take = c.2.does in
+    let same : take.operation.task ≡ a.operation.task = by mid c.1 take.operation take.is in
+    let may : MayAnswer mid take.operation a.operation.task answer = subst (λ (z : Task). MayAnswer mid take.operation z answer) same take.may in
+    lets_go mid p (count_of s) x.stripe a.operation take.operation p.asked.task a.operation.task answer a.for may
+  where
+    by : (mid : LogletView) → (mid ≡ before) ⊎ LogletStep before (Carry x.ticket word) Carried mid → (o : Operation) → operation_at mid.operations x.ticket ≡ Some o → o.task ≡ a.operation.task
+    by mid (inl e) o is = ap (λ (z : Operation). z.task) (some_operation o a.operation (sym is ∙ ap (λ (v : LogletView). operation_at v.operations x.ticket) e ∙ a.is))
+    by mid (inr step) o is = same_task a.operation (operation_at mid.operations x.ticket) o (subst (λ (z : Option Operation). Advances z (operation_at mid.operations x.ticket)) a.is (step.does.moves.operations x.ticket)) is
+
+is_trimmed : (s : State) (p : Plain) (task : Task) (answer : Answer) → Fits s p task answer → IsTrimmed task p.asked.reach answer s.views
+is_trimmed s p (Trimming n) TrimDone f = f
+is_trimmed s p task answer f = tt
 
 -- as the open operations change, so does what is under way for them
 pub works_put : (s n : State) (t : ℕ) (x : Option Plain) → IsStriped s → IsStriped n → Puts s.at t x n.at → PutsWork (works_of s) t (option_map work_of x) (works_of n)
@@ -139,6 +194,7 @@ module _ {L : Type 0} (view : L → LogletView) (serving : L → ServersView) wh
         outcome = r.outcome;
         is = r.is;
         carried = r.carried;
+        trims = trims_go (state_of view shape xs marks m) (plain_of view p) x r.before r.after word r.outcome (((found view shape xs marks m t p h at).going none).asks x r.before mine r.is) r.carried;
         stripes = r.rest;
         works = outcome_works view shape xs ys marks m n t p x r.outcome h k at r.hears;
       } in
@@ -179,6 +235,7 @@ module _ {L : Type 0} (view : L → LogletView) (serving : L → ServersView) wh
         is = r.is;
         step = r.step;
         left = r.left;
+        trims = asks_share p.asked.task p.asked.size p.plan.stage p.asked.reach marks.cut r.inner.stripe (length (map view xs)) (within (map view xs) r.inner.stripe r.before r.is) (found view shape xs marks m t p h at).trimming;
         stripes = r.rest;
         works = works_put (state_of view shape xs marks m) (state_of view shape ys marks n) t (Some (record (plain_of view p) { plan = plan_behind p.asked.task (length (map view xs)) p.plan; inner = Some r.inner; answer = None })) h k
             (sets_puts view m n t p (plan_behind p.asked.task (length (map view xs)) p.plan) (Some r.inner) None at r.sets);
@@ -223,6 +280,7 @@ module _ {L : Type 0} (view : L → LogletView) (serving : L → ServersView) wh
         decided = d.answer;
         decided_is = out.answer;
         told = rw out.task told;
+        trimmed = is_trimmed (state_of view shape xs marks m) (plain_of view out.p) out.p.asked.task d.answer ((found view shape xs marks m t out.p h out.was).told d.answer out.answer);
         works = works_put (state_of view shape xs marks m) (state_of view shape xs marks' n) t None h k (puts_by view m n t None out.rest);
       })
 

@@ -14,7 +14,7 @@ use Rattle.striped_loglet.specs.declared.plan.Stage.{Stage}
 use Rattle.striped_loglet.specs.declared.plan.Stage.TheVariants.{First, Last}
 use Rattle.striped_loglet.specs.declared.plan.Stage.TheVariants.{Sealing as SealingStage}
 use Rattle.striped_loglet.specs.declared.stripe.Inner.{Inner}
-use Rattle.striped_loglet.specs.Views.{total, least_of, entry_at, AllShut, NoneShut, AllReach, AllFirm, IsCapped}
+use Rattle.striped_loglet.specs.Views.{total, least_of, entry_at, AllShut, NoneShut, AllReach, AllFirm, AllTrimmed, IsCapped}
 use Rattle.striped_loglet.specs.Plans.{finding_of}
 use Rattle.striped_loglet.specs.State.{Plain, State, rounds_behind, sum_below, count_of, faults_of, down_of}
 
@@ -73,7 +73,7 @@ HasHeard (Settling n) p count i v = (min n p.asked.size ≤ covered count i v.re
 HasHeard Finding p count i v = HasTold p.plan.stage p count i v
 HasHeard Sealing p count i v = v.shut ≡ true
 HasHeard (Reading q) p count i v = Unit {0}
-HasHeard (Trimming n) p count i v = Unit {0}
+HasHeard (Trimming n) p count i v = share count i (min n p.asked.reach) ≤ v.cut
 
 -- what a stripe is doing for an operation
 abbrev pub IsFor : Task → Plain → ℕ → ℕ → Operation → Task → Type 0
@@ -98,6 +98,8 @@ pub record IsAsked (s : State) (p : Plain) (x : Inner) (v : LogletView) : Type 0
   pub firm : p.asked.firm ≤ covered (count_of s) x.stripe operation.firm
   pub shut : (b : LogletView) → slice_get p.before x.stripe ≡ Some b → b.shut ≡ true → operation.shut ≡ true
   pub again : p.asked.task ≡ Finding → p.plan.stage ≡ Last → operation.shut ≡ true
+  -- it lets go of no less than its share of what is to be trimmed
+  pub trims : (n : ℕ) → p.asked.task ≡ Trimming n → share (count_of s) x.stripe (min n p.asked.reach) ≤ v.cut
   -- what the stripe lacks now, the loglet lacks too
   pub lack : RoseBy ((operation.down - p.asked.down) + (v.faults - operation.faults)) p.asked.faults (faults_of s)
 
@@ -142,7 +144,7 @@ Fits s p (Reading q) (Beyond n) = (p.asked.firm ≤ q) × (n ≡ p.asked.firm)
 Fits s p (Reading q) (Got e) = (q < p.asked.firm) × (s.marks.cut ≤ q → entry_at s.views q ≡ Some e)
 Fits s p (Reading q) (CutAt n) = q < s.marks.cut
 Fits s p (Reading q) (NoQuorum unreached) = (q < p.asked.firm) × IsLacking s p unreached
-Fits s p (Trimming n) TrimDone = Unit {0}
+Fits s p (Trimming n) TrimDone = AllTrimmed s.views (min n p.asked.reach)
 Fits s p task (NoQuorum unreached) = IsLacking s p unreached
 Fits s p task answer = ⊥
 
@@ -158,6 +160,7 @@ pub record IsPending (s : State) (t : ℕ) (p : Plain) : Type 0 where
   pub faults : p.asked.faults ≤ faults_of s
   pub down : RoseBy (down_of s - p.asked.down) p.asked.faults (faults_of s)
   pub sealing : p.asked.task ≡ Sealing → 1 ≤ s.marks.seals
+  pub trimming : (n : ℕ) → p.asked.task ≡ Trimming n → min n p.asked.reach ≤ s.marks.cut
   pub going : p.answer ≡ None → IsGoing s p
   pub alone : (answer : Answer) → p.answer ≡ Some answer → p.inner ≡ None
   pub told : ForSome p.answer (Fits s p p.asked.task)

@@ -2,7 +2,7 @@
 use Rattle.std.specs.Prelude.{◌≡◌, ℕ, zero, suc, ◌+◌, ◌-◌, ◌/◌, ◌%◌, ◌≤◌, ◌||◌, min, Bool, true, false, Option, None, Some, List, [], ◌∷◌, ◌++◌, length, slice_get}
 use Rattle.delos_types.specs.declared.entry.Entry.{Entry}
 use Rattle.loglet_api.specs.View.{LogletView}
-use Rattle.stripe_rule.specs.Stripes.{covered}
+use Rattle.stripe_rule.specs.Stripes.{covered, share}
 
 -- one number of each stripe, all together
 abbrev pub total : (LogletView → ℕ) → List LogletView → ℕ
@@ -53,6 +53,10 @@ AllReach views t = (i : ℕ) (v : LogletView) → slice_get views i ≡ Some v �
 -- what was answered of each stripe covers this length
 abbrev pub AllFirm : List LogletView → ℕ → Type 0
 AllFirm views t = (i : ℕ) (v : LogletView) → slice_get views i ≡ Some v → t ≤ covered (length views) i v.firm
+
+-- each stripe let go of the positions below this length that it has
+abbrev pub AllTrimmed : List LogletView → ℕ → Type 0
+AllTrimmed views t = (i : ℕ) (v : LogletView) → slice_get views i ≡ Some v → share (length views) i t ≤ v.cut
 
 -- a stripe whose sealed tail covers no more than this length
 pub record IsCapped (views : List LogletView) (t : ℕ) : Type 0 where

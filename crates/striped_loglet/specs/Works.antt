@@ -1,14 +1,18 @@
 -- What becomes of the stripes' operations.
-use Rattle.std.specs.Prelude.{◌≡◌, ◌⊎◌, ℕ, nat_eq, if◌then◌else◌, Option, None, Some, Result, Ok, Err, List, length, set, slice_get}
+use Rattle.std.specs.Prelude.{◌≡◌, ◌⊎◌, ℕ, ◌≤◌, nat_eq, min, if◌then◌else◌, Option, None, Some, Result, Ok, Err, List, length, set, slice_get}
 use Rattle.loglet_api.specs.declared.call.Op.{Op}
+use Rattle.loglet_api.specs.declared.call.Op.TheVariants.{Trim}
 use Rattle.loglet_api.specs.declared.call.Answer.{Answer}
-use Rattle.loglet_api.specs.declared.call.Answer.TheVariants.{Beyond}
+use Rattle.loglet_api.specs.declared.call.Answer.TheVariants.{Beyond, TrimDone, NoQuorum}
+use Rattle.loglet_api.specs.declared.call.Task.{Task}
+use Rattle.loglet_api.specs.declared.call.Task.TheVariants.{Trimming}
 use Rattle.loglet_api.specs.declared.call.Refused.{Refused}
 use Rattle.loglet_api.specs.declared.call.Refused.TheVariants.{Full, Memory}
 use Rattle.loglet_api.specs.declared.call.LogletCall.TheVariants.{Begin, Forget}
 use Rattle.loglet_api.specs.declared.call.LogletAnswer.TheVariants.{Begun, Forgotten}
 use Rattle.loglet_api.specs.View.{LogletView, size_of}
 use Rattle.loglet_api.specs.Step.{LogletStep, HasLeft, task_of, bumped}
+use Rattle.stripe_rule.specs.Stripes.{standing}
 use Rattle.striped_loglet.specs.declared.plan.Heard.{Heard}
 use Rattle.striped_loglet.specs.declared.plan.Heard.TheVariants.{On, Decided}
 use Rattle.striped_loglet.specs.declared.stripe.Inner.{Inner}
@@ -16,12 +20,34 @@ use Rattle.striped_loglet.specs.declared.stripe.Outcome.{Outcome}
 use Rattle.striped_loglet.specs.declared.stripe.Outcome.TheVariants.{Going, Answered}
 use Rattle.striped_loglet.specs.Plans.{first_plan, plan_behind, target_of, asked_of, heard_by, told_at, IsUnspoken}
 use Rattle.striped_loglet.specs.Calls.{Starts, CarriedOn}
+use Rattle.striped_loglet.specs.Views.{AllTrimmed}
 use Rattle.striped_loglet.specs.State.{Work, work_at, inner_of}
 use Rattle.striped_loglet.specs.Striped.{StripedView}
 
 -- this ticket has this now, and each other what it had
 abbrev pub PutsWork : List (ℕ × Work) → ℕ → Option Work → List (ℕ × Work) → Type 0
 PutsWork old t work new = (q : ℕ) → work_at new q ≡ (if nat_eq t q then work else work_at old q)
+
+-- ---- What a Trim asks of the stripes, and when it is done
+
+-- It asks a stripe to let go of just as many of its positions as stand below the loglet's cut, which is at least what the
+-- Trim named of what was there for good as it began.
+abbrev pub AsksShare : Task → ℕ → ℕ → ℕ → ℕ → Op → Type 0
+AsksShare (Trimming n) reach cut stripe count op = (op ≡ Trim (standing count stripe cut)) × (min n reach ≤ cut)
+AsksShare task reach cut stripe count op = Unit {0}
+
+-- A stripe answers that it let go of its share, or that too few of its servers answered, and nothing else.
+abbrev pub LetsGo : Task → Outcome → Type 0
+LetsGo task (Going y) = Unit {0}
+LetsGo (Trimming n) (Answered TrimDone) = Unit {0}
+LetsGo (Trimming n) (Answered (NoQuorum unreached)) = Unit {0}
+LetsGo (Trimming n) (Answered answer) = ⊥
+LetsGo task (Answered answer) = Unit {0}
+
+-- Once it is done each stripe let go of what it has of the positions that were to be trimmed.
+abbrev pub IsTrimmed : Task → ℕ → Answer → List LogletView → Type 0
+IsTrimmed (Trimming n) reach TrimDone views = AllTrimmed views (min n reach)
+IsTrimmed task reach answer views = Unit {0}
 
 -- ---- Begin
 
@@ -62,6 +88,7 @@ pub record GoesOn (old : StripedView) (t word : ℕ) (w : Work) (x : Inner) (new
   pub outcome : Outcome
   pub is : slice_get old.stripes x.stripe ≡ Some before
   pub carried : CarriedOn before x word (Ok outcome) after
+  pub trims : LetsGo w.asked.task outcome
   pub stripes : new.stripes ≡ set old.stripes x.stripe after
   pub works : PutsWork old.works t (Some (carried_work w x (length old.stripes) outcome)) new.works
 
@@ -75,6 +102,7 @@ pub record AsksNext (old : StripedView) (t : ℕ) (w : Work) (new : StripedView)
   pub is : slice_get old.stripes inner.stripe ≡ Some before
   pub step : LogletStep before (Begin (asked_of w.asked.task w.asked.size w.plan.stage old.loglet.cut inner.stripe (length old.stripes))) (Begun inner.ticket) after
   pub left : HasLeft after inner.ticket inner.rounds inner.steps
+  pub trims : AsksShare w.asked.task w.asked.reach old.loglet.cut inner.stripe (length old.stripes) (asked_of w.asked.task w.asked.size w.plan.stage old.loglet.cut inner.stripe (length old.stripes))
   pub stripes : new.stripes ≡ set old.stripes inner.stripe after
   pub works : PutsWork old.works t (Some (record w { plan = plan_behind w.asked.task (length old.stripes) w.plan; inner = Some inner; answer = None })) new.works
 
@@ -107,6 +135,7 @@ pub record TakesOne (old : StripedView) (t : ℕ) (answer : Answer) (new : Strip
   pub decided : Answer
   pub decided_is : work.answer ≡ Some decided
   pub told : answer ≡ told_at work.asked.task old.loglet.cut decided
+  pub trimmed : IsTrimmed work.asked.task work.asked.reach decided old.stripes
   pub works : PutsWork old.works t None new.works
 
 -- .. or it wasn't there yet
