@@ -9,5 +9,6 @@
 
 pub mod answer;
 pub mod cell;
+pub mod laws;
 pub mod server;
 pub mod tally;
