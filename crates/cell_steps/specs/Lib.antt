@@ -1,3 +1,4 @@
 pub mod Serving
 pub mod Says
 pub mod Majorities
+pub mod Telling

@@ -10,5 +10,6 @@
 pub mod answer;
 pub mod cell;
 pub mod laws;
+pub mod moved;
 pub mod server;
 pub mod tally;
