@@ -11,6 +11,7 @@ ghost use Rattle.quorum_cell.specs.Law.{IsLawful};
 ghost use Rattle.quorum_cell.specs.Steps.{run_cell};
 ghost use Rattle.cell_views.specs.Views.{Manner, IsManner, cell_view, calls_of};
 ghost use Rattle.legal_journal.specs.Journal.{IsLegal};
+ghost use Rattle.cell_steps.specs.Majorities.{OutcomesRest};
 ghost use Rattle.world_steps.specs.declared.cell.WorldCell.TheVariants.{Quorum};
 ghost use Rattle.world_steps.specs.declared.shape.QuorumShape.{QuorumShape};
 ghost use Rattle.world_steps.specs.declared.shape.Shape.{Shape};
@@ -41,6 +42,15 @@ pub fn cells_are_lawful()
         → slice_get shapes number ≡ Some (shape.Quorum size) → IsManner size.servers manner
         → let world = fresh shapes nodes in let first = start_quorum size in
         (last : Cell) × (cell_at (run_world steps world).cells number ≡ Quorum last) × LogletRun (cell_view manner first) (calls_of (steps_in number steps world) first) (cell_view manner last) }
+{}
+
+/// What the operations of each quorum cell come to, at the end of any path of stripes, rests on what
+/// the cell's servers sent for them: a length, a seal and a trim on what more than half of them sent,
+/// the want of a quorum on more than half that were given up. No sealed tail is below a length that
+/// was reached, earlier or later, and clients are told nothing else.
+pub fn outcomes_rest_on_majorities()
+    ensures { (shapes : List Shape) (nodes : ℕ) (steps : List WorldStep) (number : ℕ) (path : List ℕ) (cell : Cell) → IsShelf shapes → All BringsSpelled steps
+        → quorum_of (cell_at (run_world steps (fresh shapes nodes)).cells number) path ≡ Some cell → OutcomesRest cell }
 {}
 
 /// The events are a legal journal, by any rules of who may append what and of how far the log may
