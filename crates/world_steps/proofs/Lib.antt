@@ -8,3 +8,5 @@ pub mod Fresh
 pub mod InCells
 pub mod LogLaws
 pub mod Fits
+pub mod WholeLog
+pub mod NoGap

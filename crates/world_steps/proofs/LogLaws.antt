@@ -18,13 +18,13 @@ use Rattle.legal_journal.proofs.Chains.{chain_ok, closed_at, is_in_at}
 use Rattle.world_steps.specs.Cells.{view_of, entries_of}
 use Rattle.world_steps.specs.Parts.{World, cell_at, node_at, given_under, shelf_of}
 use Rattle.world_steps.specs.Logs.{log_at, trim_of, tail_of, Stands}
-use Rattle.world_steps.specs.Laws.{law_of, WorldLaw, IsFrontOf}
+use Rattle.world_steps.specs.Laws.{law_of, WorldLaw}
 use Rattle.world_steps.specs.Events.{was_placed_at}
 use Rattle.world_steps.proofs.Kind.{cell_kind}
 use Rattle.world_steps.proofs.Kept.{Goes, state_ok}
 use Rattle.world_steps.proofs.Seen.{reach_same, entries_same, log_same, trim_same, tail_same}
 
-some_at : {A : Type 0} (xs : List A) (i : ℕ) → i < length xs → (x : A) × (slice_get xs i ≡ Some x)
+pub some_at : {A : Type 0} (xs : List A) (i : ℕ) → i < length xs → (x : A) × (slice_get xs i ≡ Some x)
 some_at [] i l = absurd (omega arith)
 some_at (x ∷ xs) zero l = (x, refl)
 some_at (x ∷ xs) (suc i) l = some_at xs i (omega arith)
@@ -37,11 +37,6 @@ module _ (may : ℕ → Entry → Type 0) (floor : List Entry → ℕ → Type 0
   pub stands_here : (pos : ℕ) (e : Entry) → laws.Stands (journal.state_of w.events) pos e → Stands w pos e
   stands_here pos e (inl x) = inl (omega (arith, trim_same may floor w law))
   stands_here pos e (inr x) = inr (log_same may floor w law pos ∙ x)
-
-  pub front_stands : (n : ℕ) → IsFrontOf w (node_at w.nodes n).applied
-  front_stands n pos e h =
-      let shown : (journal.state_of w.events).shown pos ≡ Some e = (law.nodes n).applied pos (slice_get_within (node_at w.nodes n).applied pos e h) ∙ h in
-      stands_here pos e (ok.was_shown pos e shown)
 
   pub chain_is : (v : ℕ) (c : Chain) → given_under w.register v ≡ Some c → IsChain c
   chain_is v c h = chain_ok (length (shelf_of w)) (journal.state_of w.events) v c ok (law.register.given v ∙ h)
@@ -58,7 +53,7 @@ module _ (may : ℕ → Entry → Type 0) (floor : List Entry → ℕ → Type 0
     shelf_legal : IsLegal (law_of may floor new) (w.events ++ goes.more)
     shelf_legal = subst (λ (es : List Event). IsLegal (law_of may floor new) es) goes.events goes.law.legal
 
-    continues : Continues (journal.state_of w.events) (journal.state_of new.events)
+    pub continues : Continues (journal.state_of w.events) (journal.state_of new.events)
     continues = subst (λ (es : List Event). Continues (journal.state_of w.events) (journal.state_of es)) (sym goes.events) (goes_on (law_of may floor new) w.events goes.more shelf_legal)
 
     pub logs_same : (pos : ℕ) (e f : Entry) → log_at w pos ≡ Some e → log_at new pos ≡ Some f → e ≡ f

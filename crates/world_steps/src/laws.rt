@@ -1,6 +1,6 @@
 //! What holds of every world that a list of steps leads to from a fresh one, with any number of
 //! clients that seal, repair and extend. Each function does nothing: its contract is the law.
-ghost use Rattle.std.specs.Prelude.{◌≡◌, ℕ, ◌+◌, ◌<◌, ◌≤◌, true, List, map, slice_get, Some, IsSome, All};
+ghost use Rattle.std.specs.Prelude.{◌≡◌, ℕ, ◌+◌, ◌<◌, ◌≤◌, true, List, ◌++◌, length, map, slice_get, take, Some, IsSome, All};
 ghost use Rattle.delos_types.specs.declared.entry.Entry.{Entry};
 ghost use Rattle.delos_types.specs.declared.chain.Segment.{Segment};
 ghost use Rattle.delos_types.specs.declared.chain.Chain.{Chain};
@@ -20,7 +20,7 @@ ghost use Rattle.world_steps.specs.Cells.{view_of, entries_of, quorum_of, start_
 ghost use Rattle.world_steps.specs.declared.step.WorldStep.{WorldStep};
 ghost use Rattle.world_steps.specs.Parts.{World, fresh, cell_at, node_at, given_under};
 ghost use Rattle.world_steps.specs.Events.{was_placed_at};
-ghost use Rattle.world_steps.specs.Logs.{log_at, trim_of, tail_of, Stands, state_of, acts_in};
+ghost use Rattle.world_steps.specs.Logs.{log_at, trim_of, tail_of, Stands, whole_log, state_of, acts_in};
 ghost use Rattle.world_steps.specs.Steps.{run_world};
 ghost use Rattle.world_steps.specs.Moves.{steps_in, calls_in};
 ghost use Rattle.world_steps.specs.Laws.{IsShelf, BringsSpelled, AllKeepTo, WorldLaw, IsFrontOf};
@@ -107,12 +107,42 @@ pub fn chains_are_joined()
         → slice_get chain.segments number ≡ Some segment → segment.end ≡ Some end → segment.start + (view_of (cell_at world.cells segment.id)).reach ≤ end }
 {}
 
-/// The state of a node is what a front of the log does, whatever stopped and came up again: each
-/// entry of it stands in the log, or was trimmed there. So nodes agree, at any two moments.
-pub fn nodes_follow_the_log()
-    ensures state { (shapes : List Shape) (nodes : ℕ) (steps : List WorldStep) (node : ℕ) → IsShelf shapes → All BringsSpelled steps
+/// The log is one: with what it showed before that was trimmed it goes on at its end alone, and a
+/// position has one entry for good. Each entry of it stands in the log or was trimmed there, and is
+/// one that the log showed at its place at some moment. It has no gap, but where more is trimmed than
+/// it has.
+pub fn the_log_is_one()
+    ensures grows { (shapes : List Shape) (nodes : ℕ) (early late : List WorldStep) → IsShelf shapes → All BringsSpelled early → All BringsSpelled late
+        → let world = run_world early (fresh shapes nodes) in let later = run_world late world in
+        (more : List Entry) × (whole_log later ≡ whole_log world ++ more) }
+    ensures shows { (shapes : List Shape) (nodes : ℕ) (early late : List WorldStep) → IsShelf shapes → All BringsSpelled early → All BringsSpelled late
+        → let world = run_world early (fresh shapes nodes) in let later = run_world late world in
+        (pos : ℕ) (e f : Entry) → log_at world pos ≡ Some e → slice_get (whole_log later) pos ≡ Some f → e ≡ f }
+    ensures was { (shapes : List Shape) (nodes : ℕ) (steps : List WorldStep) → IsShelf shapes → All BringsSpelled steps
         → let world = run_world steps (fresh shapes nodes) in
-        (front : List Entry) × IsFrontOf world front × (state_of (node_at world.nodes node) ≡ acts_in front) }
+        (pos : ℕ) (e : Entry) → slice_get (whole_log world) pos ≡ Some e
+        → (early : List WorldStep) × (late : List WorldStep) × (steps ≡ early ++ late) × (log_at (run_world early (fresh shapes nodes)) pos ≡ Some e) }
+    ensures stands { (shapes : List Shape) (nodes : ℕ) (steps : List WorldStep) → IsShelf shapes → All BringsSpelled steps
+        → let world = run_world steps (fresh shapes nodes) in IsFrontOf world (whole_log world) }
+    ensures whole { (shapes : List Shape) (nodes : ℕ) (steps : List WorldStep) → IsShelf shapes → All BringsSpelled steps
+        → let world = run_world steps (fresh shapes nodes) in
+        trim_of world ≤ length (whole_log world) → length (whole_log world) ≡ tail_of world }
+{}
+
+/// By rules under which nobody trims more than the log has, it has no gap: each position below its
+/// tail has its entry, which the log shows, or showed before it was trimmed.
+pub fn the_log_has_no_gap<P: Rules>()
+    ensures { ((log : List Entry) (n : ℕ) → P.law.floor log n → n ≤ length log)
+        → (shapes : List Shape) (nodes : ℕ) (steps : List WorldStep) → IsShelf shapes → AllKeepTo P.law.may P.law.floor (fresh shapes nodes) steps
+        → let world = run_world steps (fresh shapes nodes) in length (whole_log world) ≡ tail_of world }
+{}
+
+/// What a node applied is the beginning of the one log, below the trim too, and its state is what
+/// acts in that, whatever stopped and came up again. So nodes agree, at any two moments.
+pub fn nodes_follow_the_log()
+    ensures state { (shapes : List Shape) (nodes : ℕ) (steps : List WorldStep) (number : ℕ) → IsShelf shapes → All BringsSpelled steps
+        → let world = run_world steps (fresh shapes nodes) in let node = node_at world.nodes number in let cursor = length node.applied in
+        (cursor ≤ length (whole_log world)) × (node.applied ≡ take cursor (whole_log world)) × (state_of node ≡ acts_in (take cursor (whole_log world))) }
     ensures agree { (shapes : List Shape) (nodes : ℕ) (early late : List WorldStep) → IsShelf shapes → All BringsSpelled early → All BringsSpelled late
         → let world = run_world early (fresh shapes nodes) in let later = run_world late world in
         (one other pos : ℕ) (e f : Entry) → slice_get (node_at world.nodes one).applied pos ≡ Some e
