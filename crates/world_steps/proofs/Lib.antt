@@ -9,4 +9,5 @@ pub mod InCells
 pub mod LogLaws
 pub mod Fits
 pub mod WholeLog
+pub mod Apart
 pub mod NoGap

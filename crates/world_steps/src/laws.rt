@@ -1,6 +1,6 @@
 //! What holds of every world that a list of steps leads to from a fresh one, with any number of
 //! clients that seal, repair and extend. Each function does nothing: its contract is the law.
-ghost use Rattle.std.specs.Prelude.{◌≡◌, ℕ, ◌+◌, ◌<◌, ◌≤◌, true, List, ◌++◌, length, map, slice_get, take, Some, IsSome, All};
+ghost use Rattle.std.specs.Prelude.{◌≡◌, ℕ, ◌+◌, ◌^◌, ◌<◌, ◌≤◌, true, List, ◌++◌, length, map, slice_get, take, Some, IsSome, All};
 ghost use Rattle.delos_types.specs.declared.entry.Entry.{Entry};
 ghost use Rattle.delos_types.specs.declared.chain.Segment.{Segment};
 ghost use Rattle.delos_types.specs.declared.chain.Chain.{Chain};
@@ -8,20 +8,25 @@ ghost use Rattle.chain_map.specs.Chain.{IsChain};
 ghost use Rattle.loglet_api.specs.Run.{LogletRun};
 ghost use Rattle.quorum_cell.specs.Cells.{Cell};
 ghost use Rattle.quorum_cell.specs.Law.{IsLawful};
-ghost use Rattle.quorum_cell.specs.Steps.{run_cell};
+ghost use Rattle.quorum_cell.specs.declared.operation.CellStep.{CellStep};
+ghost use Rattle.quorum_cell.specs.Steps.{cell_step, run_cell};
 ghost use Rattle.cell_views.specs.Views.{Manner, IsManner, cell_view, calls_of};
 ghost use Rattle.legal_journal.specs.Journal.{IsLegal};
 ghost use Rattle.cell_steps.specs.Majorities.{OutcomesRest};
+ghost use Rattle.cell_steps.specs.Telling.{Came, none_came, moved, told_of, carries_of, left_for, IsTold};
+ghost use Rattle.striped_cells.specs.declared.motion.Motion.TheVariants.{Servers};
+ghost use Rattle.striped_cells.specs.Motions.{is_inner};
 ghost use Rattle.world_steps.specs.declared.cell.WorldCell.TheVariants.{Quorum};
 ghost use Rattle.world_steps.specs.declared.shape.QuorumShape.{QuorumShape};
 ghost use Rattle.world_steps.specs.declared.shape.Shape.{Shape};
 ghost use Rattle.world_steps.specs.declared.shape.Shape.TheVariants as shape;
 ghost use Rattle.world_steps.specs.Cells.{view_of, entries_of, quorum_of, start_quorum, servers_of};
 ghost use Rattle.world_steps.specs.declared.step.WorldStep.{WorldStep};
+ghost use Rattle.world_steps.specs.declared.step.WorldStep.TheVariants.{Inside};
 ghost use Rattle.world_steps.specs.Parts.{World, fresh, cell_at, node_at, given_under};
 ghost use Rattle.world_steps.specs.Events.{was_placed_at};
 ghost use Rattle.world_steps.specs.Logs.{log_at, trim_of, tail_of, Stands, whole_log, state_of, acts_in};
-ghost use Rattle.world_steps.specs.Steps.{run_world};
+ghost use Rattle.world_steps.specs.Steps.{world_step, run_world};
 ghost use Rattle.world_steps.specs.Moves.{steps_in, calls_in};
 ghost use Rattle.world_steps.specs.Laws.{IsShelf, BringsSpelled, AllKeepTo, WorldLaw, IsFrontOf};
 
@@ -51,6 +56,23 @@ pub fn cells_are_lawful()
 pub fn outcomes_rest_on_majorities()
     ensures { (shapes : List Shape) (nodes : ℕ) (steps : List WorldStep) (number : ℕ) (path : List ℕ) (cell : Cell) → IsShelf shapes → All BringsSpelled steps
         → quorum_of (cell_at (run_world steps (fresh shapes nodes)).cells number) path ≡ Some cell → OutcomesRest cell }
+{}
+
+/// What moves inside a cell is told apart. In a quorum cell, at the end of any path of stripes, it
+/// is one step of that cell, and changes what it is told to change: which messages came before
+/// decides what is a stray (`tells`). What a quorum cell does is, as its clients see it, a run of a
+/// loglet in which a message that comes for the first time to or from an operation that waits is a
+/// carry of that operation, and so are its loss and the operation's end; one that comes again is a
+/// stray, and a restart is one of that server (`run`).
+pub fn moves_are_told_apart()
+    ensures tells { (world : World) (number : ℕ) (path : List ℕ) (step : CellStep) (came : Came) (cell : Cell) → number < length world.cells → is_inner step ≡ true
+        → quorum_of (cell_at world.cells number) path ≡ Some cell → let next = cell_step cell step in
+        (quorum_of (cell_at (world_step world (Inside number path (Servers step))).cells number) path ≡ Some next) × IsTold cell (moved cell came step) next }
+    ensures run { (shapes : List Shape) (nodes : ℕ) (steps : List WorldStep) (number : ℕ) (size : QuorumShape) → IsShelf shapes → All BringsSpelled steps
+        → slice_get shapes number ≡ Some (shape.Quorum size)
+        → let world = fresh shapes nodes in let first = start_quorum size in let inner = steps_in number steps world in length inner < 2 ^ 52
+        → (last : Cell) × (cell_at (run_world steps world).cells number ≡ Quorum last)
+        × LogletRun (cell_view (left_for (λ ticket. carries_of inner first none_came ticket)) first) (told_of inner first none_came) (cell_view (left_for (λ ticket. 0)) last) }
 {}
 
 /// The events are a legal journal, by any rules of who may append what and of how far the log may
