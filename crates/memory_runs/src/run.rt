@@ -4,11 +4,12 @@ ghost use Rattle.std.specs.List.{AllByRecursion};
 ghost use Rattle.std.specs.Vec.{vec_capacity};
 ghost use Rattle.script_words.specs.Plans.{IsPlan, plan_of};
 ghost use Rattle.script_words.specs.declared.plan.Plan as plans;
-ghost use Rattle.shelf_loglets.specs.Shelf.{AreRooms, kind_for, view_of};
+ghost use Rattle.shelf_loglets.specs.Shelf.{AreRooms, kind_for, servers_for, serving_in, view_of};
+ghost use Rattle.shelf_loglets.specs.Stripes.{new_servers};
 ghost use Rattle.fitting_run.specs.Fresh.{five_kinds};
 ghost use Rattle.script_runner.specs.Fresh.{AreFresh, AreFreshNodes, shown};
 ghost use Rattle.script_runner.specs.Standing.{HasEnded};
-ghost use Rattle.memory_runs.specs.Disks.{IsFreshDisk};
+ghost use Rattle.memory_runs.specs.Disks.{IsFreshDisk, IsUntouched};
 
 use crate::register::fresh_register;
 use batch_engine::BatchEngine;
@@ -61,10 +62,11 @@ fn plan_in(alloc: Global, words: &[String]) -> Result<Option<Plan>, AllocError>
     }
 }
 
-/// So many empty disks in memory.
+/// So many empty disks in memory, none of them armed or stopped.
 fn empty_disks(alloc: Global, count: u8) -> Result<Vec<MemDisk>, AllocError>
     ensures as_many { IfOk result (λ disks. length disks.items ≡ count) }
     ensures fresh { IfOk result (λ disks. AllByRecursion (λ d. IsFreshDisk d) disks.items) }
+    ensures untouched { IfOk result (λ disks. AllByRecursion (λ d. IsUntouched d) disks.items) }
 {
     let mut disks = Vec::new(alloc);
     'disk: for _ in 0..count {
@@ -77,6 +79,7 @@ fn empty_disks(alloc: Global, count: u8) -> Result<Vec<MemDisk>, AllocError>
 fn disks_for(alloc: Global, plan: &Option<Plan>) -> Result<Vec<MemDisk>, AllocError>
     ensures as_many { IfOk result (λ disks. (p : plans.Plan) → plan.now ≡ Some p → length disks.items ≡ p.nodes) }
     ensures fresh { IfOk result (λ disks. AllByRecursion (λ d. IsFreshDisk d) disks.items) }
+    ensures untouched { IfOk result (λ disks. AllByRecursion (λ d. IsUntouched d) disks.items) }
 {
     match plan {
         Some(plan) => empty_disks(alloc, plan.nodes),
@@ -84,10 +87,11 @@ fn disks_for(alloc: Global, plan: &Option<Plan>) -> Result<Vec<MemDisk>, AllocEr
     }
 }
 
-/// Empty loglets of these kinds, with these rooms.
+/// Empty loglets of these kinds, with these rooms. All of their servers are up, and nothing was asked of them.
 fn loglets(alloc: Global, kinds: &[Kind], rooms: Rooms) -> Result<Vec<ShelfLoglet>, AllocError>
     requires { AreRooms rooms }
     ensures kinds { IfOk result (λ shelf. map (λ v. v.kind) (map view_of shelf.items) ≡ map kind_for kinds.now) }
+    ensures servers { IfOk result (λ shelf. map serving_in shelf.items ≡ map (λ k. new_servers (servers_for k)) kinds.now) }
     ensures as_many { IfOk result (λ shelf. length shelf.items ≡ length kinds.now) }
     ensures fresh { IfOk result (λ shelf. AreFresh (map view_of shelf.items)) }
 {
@@ -106,6 +110,7 @@ fn shelf_for(
 ) -> Result<Vec<ShelfLoglet>, AllocError>
     requires { AreRooms rooms }
     ensures kinds { IfOk result (λ shelf. (p : plans.Plan) → plan.now ≡ Some p → map (λ v. v.kind) (map view_of shelf.items) ≡ map kind_for p.shelf) }
+    ensures servers { IfOk result (λ shelf. (p : plans.Plan) → plan.now ≡ Some p → map serving_in shelf.items ≡ map (λ k. new_servers (servers_for k)) p.shelf) }
     ensures as_many { IfOk result (λ shelf. (p : plans.Plan) → plan.now ≡ Some p → length shelf.items ≡ length p.shelf) }
     ensures fresh { IfOk result (λ shelf. AreFresh (map view_of shelf.items)) }
 {

@@ -1,5 +1,5 @@
 -- What the loglet of a kind shows.
-use Rattle.std.specs.Prelude.{◌≡◌, ◌*◌, ◌^◌, ◌≤◌, ℕ, false, All}
+use Rattle.std.specs.Prelude.{◌≡◌, ◌*◌, ◌^◌, ◌≤◌, ℕ, ⊤, false, All}
 use Rattle.loglet_api.specs.View.{LogletView}
 use Rattle.loglet_api.specs.Servers.{ServersView}
 use Rattle.loglet_api.specs.declared.call.Kind.{Kind as LogletKind}
@@ -9,7 +9,6 @@ use Rattle.native_loglet.specs.Natives.{serving_of as native_serving}
 use Rattle.striped_loglet.specs.Striped.{serving_of as striped_serving}
 use Rattle.script_words.specs.declared.shelf.Kind.{Kind}
 use Rattle.script_words.specs.declared.shelf.Kind.TheVariants.{File, Native1, Native3, Native5, Native7, Striped2, Striped3, Striped4, Striped5, Striped6, Striped7, Striped8, Nested}
-use Rattle.shelf_loglets.specs.Stripes.{new_servers}
 use Rattle.shelf_loglets.specs.declared.shelf.Rooms.{Rooms}
 use Rattle.shelf_loglets.specs.declared.shelf.ShelfLoglet.{ShelfLoglet}
 use Rattle.shelf_loglets.specs.declared.shelf.ShelfLoglet.TheVariants as made
@@ -76,13 +75,12 @@ servers_for Striped7 = 21
 servers_for Striped8 = 24
 servers_for Nested = 12
 
--- Nothing happened to it yet: so many servers are up, and no disk that it shows is armed or stopped; one over stripes shows no
--- disks, but its servers. A file loglet tells only that its disk isn't armed.
-abbrev pub IsNew : ℕ → ShelfLoglet → Type 0
-IsNew n (made.File l) = l.disk.armed ≡ 0
-IsNew n (made.Native l) = (native_serving l ≡ new_servers n) × All (λ v. v.disk.stopped ≡ false) l.replicas
-IsNew n (made.Striped l) = striped_serving l ≡ new_servers n
-IsNew n (made.Nested l) = striped_serving l ≡ new_servers n
+-- no disk that it shows is stopped; one over stripes shows its servers, and no disks
+abbrev pub IsRunning : ShelfLoglet → Type 0
+IsRunning (made.File l) = l.disk.stopped ≡ false
+IsRunning (made.Native l) = All (λ v. v.disk.stopped ≡ false) l.replicas
+IsRunning (made.Striped l) = ⊤
+IsRunning (made.Nested l) = ⊤
 
 -- eight inner rooms are at most 2^32
 pub record AreRooms (rooms : Rooms) : Type 0 where

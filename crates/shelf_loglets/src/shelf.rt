@@ -1,7 +1,8 @@
 //! The loglet of a kind.
 ghost use Rattle.std.specs.Prelude.{◌≡◌, IfOk};
 ghost use Rattle.loglet_api.specs.View.{IsFresh};
-ghost use Rattle.shelf_loglets.specs.Shelf.{AreRooms, IsNew, view_of, serving_in, kind_for, room_for, servers_for};
+ghost use Rattle.shelf_loglets.specs.Shelf.{AreRooms, IsRunning, view_of, serving_in, kind_for, room_for, servers_for};
+ghost use Rattle.shelf_loglets.specs.Stripes.{new_servers};
 
 use crate::striped::{Native, nested, striped};
 use delos_types::numbers::Ticket;
@@ -119,7 +120,10 @@ pub fn loglet_of(alloc: Global, kind: Kind, rooms: Rooms) -> Result<ShelfLoglet,
     ensures fresh { IfOk result (λ made. IsFresh (view_of made)) }
     ensures kind { IfOk result (λ made. (view_of made).kind ≡ kind_for kind) }
     ensures room { IfOk result (λ made. (view_of made).room ≡ room_for rooms kind) }
-    ensures new { IfOk result (λ made. IsNew (servers_for kind) made) }
+
+    // It has as many servers as its kind says, all of them up, none armed, reopened or failed; nothing was asked of them or of it.
+    ensures servers { IfOk result (λ made. serving_in made ≡ new_servers (servers_for kind)) }
+    ensures running { IfOk result IsRunning }
 {
     let Rooms { single, inner } = rooms;
     Ok(match kind {
