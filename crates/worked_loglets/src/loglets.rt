@@ -30,6 +30,12 @@ const MOST_SERVERS: u64 = 64;
 
 const MOST_ROUNDS: u64 = 100_000;
 
+/// As many carries as bring most operations to their end.
+const HANDFUL: u64 = 6;
+
+/// No operation of a case takes so many of them.
+const MOST_HANDFULS: u64 = 50;
+
 /// The kinds of loglet.
 #[derive(Clone, Copy)]
 enum Kind {
@@ -37,21 +43,10 @@ enum Kind {
     File,
     /// So many log servers.
     Native(u64),
-    /// Two file loglets in turn.
-    Striped,
+    /// Two loglets in turn: file loglets, or native ones of so many servers.
+    Striped(Option<u64>),
     /// Two such striped loglets in turn.
-    Nested,
-}
-
-impl Kind {
-    /// As many carries as bring any operation of a case to its end: the rest are skipped.
-    fn carries(self) -> u64 {
-        match self {
-            Kind::File => 1,
-            Kind::Native(_) => 60,
-            Kind::Striped | Kind::Nested => 170,
-        }
-    }
+    Nested(Option<u64>),
 }
 
 /// What is asked once the calls are made.
@@ -110,6 +105,10 @@ impl Bench for LogletBench {
                 self.calls.push(server_call(name, words)?)?;
                 self.ask(alloc, Question::Answer)
             }
+            "fill" => {
+                self.fill(alloc, words)?;
+                silent(alloc)
+            }
             "refusal" => refusal_text(alloc, words),
             "bytes" => {
                 nothing(words)?;
@@ -130,16 +129,7 @@ impl LogletBench {
             bail!("a room is wanted");
         };
         self.room = room.parse::<u64>()?;
-        if name == "native" {
-            self.kind = Kind::Native(number(others)?);
-            return Ok(());
-        }
-        nothing(others)?;
-        self.kind = match name {
-            "striped" => Kind::Striped,
-            "nested" => Kind::Nested,
-            _ => Kind::File,
-        };
+        self.kind = kind_of(name, others)?;
         Ok(())
     }
 
@@ -148,6 +138,18 @@ impl LogletBench {
             "fails" => self.failing = numbers(alloc, words)?,
             "arm" => self.armed = number(words)?,
             _ => self.order = order(alloc, words)?,
+        }
+        Ok(())
+    }
+
+    /// Begins so many appends of a payload, and carries none.
+    fn fill(&mut self, alloc: Global, words: &[&str]) -> Result<()> {
+        let Some((count, words)) = words.split_first() else {
+            bail!("a number of appends is wanted");
+        };
+        for _ in 0..count.parse::<u64>()? {
+            self.calls
+                .push(LogletCall::Begin(op(alloc, "append", words)?))?;
         }
         Ok(())
     }
@@ -166,18 +168,24 @@ impl LogletBench {
             }
             "ends" => {
                 nothing(words)?;
-                self.end(ticket)?;
+                return self.end(alloc, ticket, Question::Answer);
             }
             _ => return self.whole(alloc, ticket, name, words),
         }
         self.ask(alloc, Question::Answer)
     }
 
-    /// Carries an operation to its end, and takes its answer.
-    fn end(&mut self, ticket: Ticket) -> Result<()> {
-        self.calls.carry(ticket, 0, self.kind.carries())?;
-        self.calls.push(LogletCall::Take(ticket))?;
-        Ok(())
+    /// Carries an operation until its answer can be taken.
+    fn end(&mut self, alloc: Global, ticket: Ticket, question: Question) -> Result<String> {
+        for _ in 0..MOST_HANDFULS {
+            self.calls.carry(ticket, 0, HANDFUL)?;
+            self.calls.push(LogletCall::Take(ticket))?;
+            let answer = self.ask(alloc, question)?;
+            if answer.as_str() != "undecided" {
+                return Ok(answer);
+            }
+        }
+        bail!("an operation doesn't end");
     }
 
     fn begin(&mut self, alloc: Global, words: &[&str]) -> Result<()> {
@@ -216,8 +224,7 @@ impl LogletBench {
         for word in &self.order {
             self.calls.carry(ticket, *word, 1)?;
         }
-        self.end(ticket)?;
-        self.ask(alloc, Question::Outcome(begin))
+        self.end(alloc, ticket, Question::Outcome(begin))
     }
 
     /// Makes all calls so far on a new loglet, and answers the question.
@@ -225,8 +232,10 @@ impl LogletBench {
         match self.kind {
             Kind::File => self.ask_file(alloc, question),
             Kind::Native(servers) => self.ask_native(alloc, servers, question),
-            Kind::Striped => self.ask_striped(alloc, question),
-            Kind::Nested => self.ask_nested(alloc, question),
+            Kind::Striped(None) => self.ask_striped(alloc, question),
+            Kind::Nested(None) => self.ask_nested(alloc, question),
+            Kind::Striped(Some(servers)) => self.ask_striped_natives(alloc, servers, question),
+            Kind::Nested(Some(servers)) => self.ask_nested_natives(alloc, servers, question),
         }
     }
 
@@ -254,6 +263,26 @@ impl LogletBench {
         answer(alloc, &mut loglet, &self.calls, question)
     }
 
+    fn ask_striped_natives(
+        &self,
+        alloc: Global,
+        servers: u64,
+        question: Question,
+    ) -> Result<String> {
+        let mut loglet = two_natives(alloc, servers, self.room()?)?;
+        answer(alloc, &mut loglet, &self.calls, question)
+    }
+
+    fn ask_nested_natives(
+        &self,
+        alloc: Global,
+        servers: u64,
+        question: Question,
+    ) -> Result<String> {
+        let mut loglet = two_native_pairs(alloc, servers, self.room()?)?;
+        answer(alloc, &mut loglet, &self.calls, question)
+    }
+
     fn ask_file(&self, alloc: Global, question: Question) -> Result<String> {
         let mut disk = FailDisk::new(MemDisk::new(alloc), self.failing.clone()?);
         disk.arm(self.armed);
@@ -269,6 +298,27 @@ impl LogletBench {
             _ => answer(alloc, &mut loglet, &self.calls, question),
         }
     }
+}
+
+/// The kind of this name, over as many servers as the words say.
+fn kind_of(name: &str, words: &[&str]) -> Result<Kind> {
+    match name {
+        "native" => Ok(Kind::Native(number(words)?)),
+        "striped" => Ok(Kind::Striped(servers_of(words)?)),
+        "nested" => Ok(Kind::Nested(servers_of(words)?)),
+        _ => {
+            nothing(words)?;
+            Ok(Kind::File)
+        }
+    }
+}
+
+/// How many servers each native loglet of a pair has, if it isn't one of file loglets.
+fn servers_of(words: &[&str]) -> Result<Option<u64>> {
+    if words.is_empty() {
+        return Ok(None);
+    }
+    Ok(Some(number(words)?))
 }
 
 /// A native loglet over so many servers.
@@ -294,8 +344,15 @@ fn order(alloc: Global, words: &[&str]) -> Result<Vec<u64>> {
     if words[0] == "none" {
         return Ok(order);
     }
-    for word in words[0].split(",") {
-        order.push(word.parse::<u64>()?)?;
+    for part in words[0].split(",") {
+        let (word, times) = match part.split_once("*") {
+            Some((word, times)) => (word, times.parse::<u8>()?),
+            None => (part, 1),
+        };
+        let word = word.parse::<u64>()?;
+        for _ in 0..times {
+            order.push(word)?;
+        }
     }
     Ok(order)
 }
@@ -398,6 +455,34 @@ fn two_pairs(alloc: Global, room: u64) -> Result<StripedLoglet<StripedLoglet<Fil
 {
     let first = two_files(alloc, room)?;
     let second = two_files(alloc, room)?;
+    pair(alloc, first, second)
+}
+
+/// A striped loglet of two native loglets over so many servers each.
+fn two_natives(
+    alloc: Global,
+    servers: u64,
+    room: u64,
+) -> Result<StripedLoglet<NativeLoglet<MemDisk>>>
+    requires { (1 ≤ room) × (room ≤ 2 ^ 32) }
+    ensures { IfOk result (λ made. IsFresh made.loglet) }
+{
+    let first = native_of(alloc, servers, room)?;
+    let second = native_of(alloc, servers, room)?;
+    pair(alloc, first, second)
+}
+
+/// A striped loglet of two of those.
+fn two_native_pairs(
+    alloc: Global,
+    servers: u64,
+    room: u64,
+) -> Result<StripedLoglet<StripedLoglet<NativeLoglet<MemDisk>>>>
+    requires { (1 ≤ room) × (room ≤ 2 ^ 32) }
+    ensures { IfOk result (λ made. IsFresh made.loglet) }
+{
+    let first = two_natives(alloc, servers, room)?;
+    let second = two_natives(alloc, servers, room)?;
     pair(alloc, first, second)
 }
 

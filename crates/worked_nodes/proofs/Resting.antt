@@ -76,11 +76,11 @@ new_store v bytes empty spelled asked survives =
     let is : nothing_saved ≡ store.saved_in v = cc in
     record { start = sym (ap (λ (s : Saved). s.cursor) is); empty = sym (ap (λ (s : Saved). s.contents) is); none_asked = asked; survives = survives }
 
-pub none_asked_so : (v v' : store.View) (o : ℕ) (w : List Item) (t : ℕ) → v ≡ v' → v'.asked ≡ None → (shown v o w t).asked ≡ None
-none_asked_so v v' o w t same none = ap (λ a. option_map (λ c. pair_of (committed (store.saved_in v) c)) a) (ap (λ (x : store.View). x.asked) same ∙ none)
+pub none_asked_so : (v v' : store.View) (o : ℕ) (w : List Item) (st re : ℕ) → v ≡ v' → v'.asked ≡ None → (shown v o w st re).asked ≡ None
+none_asked_so v v' o w st re same none = ap (λ a. option_map (λ c. pair_of (committed (store.saved_in v) c)) a) (ap (λ (x : store.View). x.asked) same ∙ none)
 
-pub survives_so : (v v' : store.View) (o : ℕ) (w : List Item) (t : ℕ) → v ≡ v' → store.Survives v' → Survives Spells (shown v o w t)
-survives_so v v' o w t same survives = shown_survives v o w t (subst store.Survives (sym same) survives)
+pub survives_so : (v v' : store.View) (o : ℕ) (w : List Item) (st re : ℕ) → v ≡ v' → store.Survives v' → Survives Spells (shown v o w st re)
+survives_so v v' o w st re same survives = shown_survives v o w st re (subst store.Survives (sym same) survives)
 
 pub legal_by : (es es' : List Event) → es ≡ es' → IsLegal two_nodes es' → IsLegal two_nodes es
 legal_by es es' same legal = subst (IsLegal two_nodes) (sym same) legal
