@@ -5,6 +5,8 @@
 //! * `tally`: what an operation heard, and what it may come to.
 //! * `answer`: what its client is told.
 //! * `cell`: a cell, and what each of its steps does.
+//! * `moved`: what a step was, to those who look on.
+//! * `laws`: on what outcomes rest, and what moves are.
 #![tactic(auto)]
 
 pub mod answer;
