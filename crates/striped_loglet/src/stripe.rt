@@ -1,12 +1,14 @@
 //! One call of a stripe, with what is noted of it.
 ghost use Rattle.std.specs.Prelude.{◌≡◌};
 ghost use Rattle.loglet_api.specs.View.{IsOpen};
-ghost use Rattle.loglet_api.specs.Step.{CanCall};
+ghost use Rattle.loglet_api.specs.Answers.{stray_answer, restart_answer};
+ghost use Rattle.loglet_api.specs.Servers.{Serves};
+ghost use Rattle.loglet_api.specs.Step.{CanCall, LogletStep};
 ghost use Rattle.striped_loglet.specs.Calls.{BegunOn, CarriedOn, TakenOn};
 ghost use Rattle.striped_loglet.specs.Servings.{ServesCarry};
 
 use delos_types::numbers::Ticket;
-use loglet_api::call::{Answer, LogletCall, Op, Refused};
+use loglet_api::call::{Answer, LogletAnswer, LogletCall, Op, Refused};
 use loglet_api::loglet::Loglet;
 
 /// An operation of a stripe that is under way.
@@ -60,6 +62,32 @@ pub fn carry_on<L: Loglet>(stripe: &mut L, inner: Inner, word: u64) -> Result<Ou
         Ok(()) => Ok(taken(stripe, inner)),
         Err(refused) => Err(refused),
     }
+}
+
+/// Closes an operation of a stripe without its answer, whatever is left of it.
+pub fn forget_on<L: Loglet>(stripe: &mut L, inner: Inner)
+    requires { CanCall (L.view stripe.old) (LogletCall.Forget inner.ticket) }
+    ensures step { LogletStep (L.view stripe.old) (LogletCall.Forget inner.ticket) LogletAnswer.Forgotten (L.view stripe.new) }
+    ensures serves { Serves (L.serving stripe.old) (LogletCall.Forget inner.ticket) LogletAnswer.Forgotten (L.serving stripe.new) }
+{
+    stripe.forget(inner.ticket)
+}
+
+/// Has a stripe deliver again a message that was delivered before, chosen by the word.
+pub fn stray_on<L: Loglet>(stripe: &mut L, word: u64) -> Result<(), Refused>
+    ensures step { LogletStep (L.view stripe.old) (LogletCall.Stray word) (stray_answer result) (L.view stripe.new) }
+    ensures serves { Serves (L.serving stripe.old) (LogletCall.Stray word) (stray_answer result) (L.serving stripe.new) }
+{
+    stripe.stray(word)
+}
+
+/// Opens a server of a stripe again by the word; whether it is up then.
+pub fn restart_on<L: Loglet>(stripe: &mut L, server: u32, word: u64) -> Result<bool, Refused>
+    requires { CanCall (L.view stripe.old) (LogletCall.Restart server word) }
+    ensures step { LogletStep (L.view stripe.old) (LogletCall.Restart server word) (restart_answer result) (L.view stripe.new) }
+    ensures serves { Serves (L.serving stripe.old) (LogletCall.Restart server word) (restart_answer result) (L.serving stripe.new) }
+{
+    stripe.restart(server, word)
 }
 
 /// Takes the answer of an operation of a stripe, or looks at what is left of it.

@@ -19,7 +19,7 @@ use crate::marks::Marks;
 use crate::pending::{Course, Decided, Pending, put, set, take_decided};
 use crate::plan::{Asked, Heard, Plan, told};
 use crate::shape::{Shape, down_of, faults_of, picked, place_of, shape_of};
-use crate::stripe::{Inner, Outcome, begin_on, carry_on};
+use crate::stripe::{Inner, Outcome, begin_on, carry_on, forget_on, restart_on, stray_on};
 use delos_types::numbers::Ticket;
 use loglet_api::call::{Answer, Kind, LogletAnswer, LogletCall, Op, Refused};
 use loglet_api::loglet::Loglet;
@@ -227,7 +227,7 @@ impl<L: Loglet> Loglet for StripedLoglet<L> {
     {
         let number = ticket.number();
         if let Some(inner) = self.pending[&number].inner {
-            self.stripes[inner.stripe as usize].forget(inner.ticket);
+            forget_on(&mut self.stripes[inner.stripe as usize], inner);
             let _ = self.pending.remove(&number);
             return;
         }
@@ -249,7 +249,7 @@ impl<L: Loglet> Loglet for StripedLoglet<L> {
     {
         let count = self.stripes.len() as u64;
         let (i, rest) = picked(word, count);
-        match self.stripes[i].stray(rest) {
+        match stray_on(&mut self.stripes[i], rest) {
             Ok(()) => {
                 self.given = self.given.strayed(word);
                 Ok(())
@@ -281,7 +281,7 @@ impl<L: Loglet> Loglet for StripedLoglet<L> {
         ensures faults { CountsFaults self.new }
     {
         let (i, server) = place_of(self.stripes.as_slice(), server);
-        self.stripes[i].restart(server, word)
+        restart_on(&mut self.stripes[i], server, word)
     }
 }
 
