@@ -4,12 +4,13 @@ use Rattle.delos_types.specs.declared.chain.Segment.{Segment}
 use Rattle.delos_types.specs.declared.chain.Chain.{Chain}
 use Rattle.chain_map.specs.Step.{dropped_below}
 use Rattle.loglet_api.specs.declared.call.Op.TheVariants.{Trim}
+use Rattle.loglet_api.specs.declared.call.Answer.TheVariants.{TrimDone}
 use Rattle.legal_journal.specs.declared.events.Event.{Event}
 use Rattle.legal_journal.specs.declared.events.FabricCall.{FabricCall}
 use Rattle.legal_journal.specs.declared.events.FabricCall.TheVariants.{Begin, ReadChain, WriteChain}
 use Rattle.legal_journal.specs.declared.events.FabricAnswer.{FabricAnswer}
 use Rattle.legal_journal.specs.declared.events.FabricAnswer.TheVariants.{Begun, At, Written, Conflict}
-use Rattle.virtual_log.specs.Turning.{HasEvent, LooksAt}
+use Rattle.virtual_log.specs.Turning.{HasEvent, IsAnswer, LooksAt}
 use Rattle.virtual_log.specs.Writing.{WroteNone}
 
 -- an own write stands under this version: it raises the trim to n, over a chain whose trim was lower
@@ -48,16 +49,23 @@ end_below n (Some end) = min end n
 abbrev pub length_below : Segment → ℕ → ℕ
 length_below s n = end_below n s.end - s.start
 
--- the loglet of the segment is to let go of what lies below n
-abbrev pub IsTrimOf : ℕ → Segment → ℕ → Event → Type 0
-IsTrimOf who s n e = (t : ℕ) × (e ≡ record { who = who; call = Begin s.id (Trim (length_below s n)); answer = Begun t })
+-- the loglet of the segment is asked, under this ticket, to let go of what lies below n
+abbrev pub IsTrimOf : ℕ → Segment → ℕ → ℕ → Event → Type 0
+IsTrimOf who s n t e = e ≡ record { who = who; call = Begin s.id (Trim (length_below s n)); answer = Begun t }
+
+-- .. and then it answered that it did
+pub record LetsGo (who : ℕ) (old : List Event) (s : Segment) (n : ℕ) (new : List Event) : Type 0 where
+  pub ticket : ℕ
+  pub asked : List Event
+  pub begun : HasEvent old (IsTrimOf who s n ticket) asked
+  pub answered : HasEvent asked (IsAnswer who s.id ticket TrimDone) new
 
 -- each of these segments that starts below n
 abbrev pub AreTrimmed : ℕ → List Event → List Segment → ℕ → List Event → Type 0
 AreTrimmed who old ss n new =
-    (k : ℕ) (s : Segment) → slice_get ss k ≡ Some s → s.start < n → HasEvent old (IsTrimOf who s n) new
+    (k : ℕ) (s : Segment) → slice_get ss k ≡ Some s → s.start < n → LetsGo who old s n new
 
--- The trim was raised, and each segment of the chain that was looked at before that starts below n was trimmed.
+-- The trim was raised, and the loglet of each segment of the chain that was looked at before that starts below n let go.
 pub record IsPrefixTrimmed (who : ℕ) (old : List Event) (n trim : ℕ) (new : List Event) : Type 0 where
   pub version : ℕ
   pub chain : Chain

@@ -3,12 +3,12 @@ ghost use Rattle.std.specs.Prelude.{◌≡◌, ◌<◌, ◌≤◌, ℕ, None, So
 ghost use Rattle.chain_map.specs.Chain.{last_segment};
 ghost use Rattle.delos_types.specs.declared.chain.Segment.{Segment};
 ghost use Rattle.legal_journal.specs.Journal.{state_of, trim_of, IsLegal, IsFree};
-ghost use Rattle.virtual_log.specs.Turning.{Later, HasEvent};
+ghost use Rattle.virtual_log.specs.Turning.{Later};
 ghost use Rattle.virtual_log.specs.Causes.{HasCause, CalmSince};
 ghost use Rattle.virtual_log.specs.declared.fault.Fault.TheVariants.{Memory};
 ghost use Rattle.virtual_log.specs.Sealing.{SealsNone};
 ghost use Rattle.virtual_log.specs.Log.{GoesBy};
-ghost use Rattle.virtual_log.specs.Truncating.{IsTruncated, length_below, IsTrimOf, AreTrimmed, IsPrefixTrimmed, Spares, TrimsLooked};
+ghost use Rattle.virtual_log.specs.Truncating.{IsTruncated, length_below, LetsGo, AreTrimmed, IsPrefixTrimmed, Spares, TrimsLooked};
 ghost use Rattle.virtual_log.specs.Saying.{SaysOnly, SaysNone};
 ghost use Rattle.virtual_log.specs.Operating.{Operates, ClosesOwn};
 
@@ -70,7 +70,7 @@ fn length_below(segment: Segment, n: u64) -> u64
     }
 }
 
-/// Lets the loglet of a segment go of what lies below `n`, if the segment starts there.
+/// Lets the loglet of a segment go of what lies below `n`, if the segment starts there. With Ok it answered that it did.
 fn trim_segment<T: Turns, C: Chooser>(
     turns: &mut T,
     chooser: &mut C,
@@ -82,7 +82,7 @@ fn trim_segment<T: Turns, C: Chooser>(
     requires trim { n ≤ trim_of (state_of (T.seen turns.old)) }
     ensures later { Later T.Law.law (T.seen turns.old) (T.seen turns.new) }
     ensures who { T.who turns.new ≡ T.who turns.old }
-    ensures trimmed { OnOk result (segment.start < n → HasEvent (T.seen turns.old) (IsTrimOf (T.who turns.old) segment n) (T.seen turns.new)) }
+    ensures trimmed { OnOk result (segment.start < n → LetsGo (T.who turns.old) (T.seen turns.old) segment n (T.seen turns.new)) }
     ensures words { SaysOnly (C.may chooser.old) (T.who turns.old) (T.seen turns.old) (T.seen turns.new) }
     ensures same { C.may chooser.new ≡ C.may chooser.old }
     ensures err { IfErr result (λ fault. HasCause (T.who turns.old) (T.seen turns.old) fault (T.seen turns.new)) }

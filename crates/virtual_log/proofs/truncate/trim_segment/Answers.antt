@@ -4,9 +4,8 @@ use Rattle.loglet_api.specs.declared.call.Answer.{Answer}
 use Rattle.legal_journal.specs.Told.{started}
 use Rattle.legal_journal.specs.Journal.{state_of}
 use Rattle.virtual_log.specs.Turning.{Answered}
-use Rattle.virtual_log.specs.Truncating.{IsTrimOf}
 use Rattle.virtual_log.specs.declared.fault.Fault.TheVariants as fault
-use Rattle.virtual_log.proofs.OneTurn.{own_by, lack_cause, cause_since, event_until}
+use Rattle.virtual_log.proofs.OneTurn.{own_by, lack_cause, cause_since}
 use Rattle.virtual_log.proofs.Appending.{started_within}
 use Rattle.virtual_log.proofs.Trimming.{may_trim, trim_event}
 use Rattle.virtual_log.proofs.Saying.{says_refl, says_then}
@@ -35,8 +34,18 @@ returns-in-TrimDone-clause-trimmed g c = λ _.
     let old = t.seen c.args.turns.now in
     let mid = t.seen c.begin.new.turns in
     let new = t.seen c.carry_on.new.turns in
-    event_until (IsTrimOf who c.args.segment c.args.n) old mid new c.in_ok-carry_on.ensures.later.more c.in_ok-carry_on.ensures.later.seen
-    (trim_event who old mid c.args.segment c.args.n c.length_below-length.result c.in_ok-ticket.ticket c.length_below-length.ensures c.in_ok-ticket.ensures.ok)
+    let s = c.args.segment in
+    let ticket = c.in_ok-ticket.ticket in
+    let o = c.in_ok-ticket.ensures.ok in
+    let r = started ((state_of (old ++ o.first.others)).cells s.id).told (Trim c.length_below-length.result) in
+    let x = subst (λ (a : Answer). Answered who mid s.id ticket r a new) c.in-TrimDone.is
+    (subst (λ k. Answered k mid s.id ticket r c.in_ok-carry_on.field-0 new) c.in_ok-ticket.ensures.who (c.in_ok-carry_on.ensures.ok r (own_by _ _ _ _ _ c.in_ok-ticket.ensures.who o.own))) in
+    record {
+      ticket = ticket;
+      asked = mid;
+      begun = trim_event who old mid s c.args.n c.length_below-length.result ticket c.length_below-length.ensures o;
+      answered = x.event;
+    }
 
 pub returns-in-NoQuorum-clause-err : goal.returns-in-NoQuorum-clause-err
 returns-in-NoQuorum-clause-err g c =

@@ -3,11 +3,10 @@ use Rattle.std.specs.Prelude.{slice_get, slice_index_or, ◌==◌}
 use Rattle.std.proofs.lemmas.Bool.Decides.{nat_tests}
 use Rattle.std.proofs.lemmas.Option.{slice_get_within}
 use Rattle.delos_types.specs.declared.chain.Segment.{Segment}
-use Rattle.virtual_log.specs.Turning.{HasEvent}
-use Rattle.virtual_log.specs.Truncating.{IsTrimOf}
+use Rattle.virtual_log.specs.Truncating.{LetsGo}
 use Rattle.virtual_log.specs.Causes.{HasCause}
-use Rattle.virtual_log.proofs.OneTurn.{later_trans, later_continues, event_since, event_until, later_refl, cause_since}
-use Rattle.virtual_log.proofs.Trimming.{at_index}
+use Rattle.virtual_log.proofs.OneTurn.{later_trans, later_continues, later_refl, cause_since}
+use Rattle.virtual_log.proofs.Trimming.{at_index, lets_go_since, lets_go_until}
 use Rattle.virtual_log.proofs.Saying.{says_refl, says_on}
 use Rattle.virtual_log.proofs.Sealing.{seals_refl, seals_then}
 use Rattle.virtual_log.proofs.Calming.{calm_refl, calm_then}
@@ -43,18 +42,18 @@ segment-preserved g c =
     let now = t.seen l.turns in
     let new = t.seen c.trim_segment.new.turns in
     let step = c.in_ok-trim_segment.ensures in
-    let by_test : (k : ℕ) (s : Segment) → k < l.segment-index + 1 → slice_get ss k ≡ Some s → s.start < n → (b : Bool) → (k == l.segment-index) ≡ b → HasEvent old (IsTrimOf who s n) new = λ k s h at below b.
-    elim b as (λ b. (k == l.segment-index) ≡ b → HasEvent old (IsTrimOf who s n) new) [
+    let by_test : (k : ℕ) (s : Segment) → k < l.segment-index + 1 → slice_get ss k ≡ Some s → s.start < n → (b : Bool) → (k == l.segment-index) ≡ b → LetsGo who old s n new = λ k s h at below b.
+    elim b as (λ b. (k == l.segment-index) ≡ b → LetsGo who old s n new) [
       | true ↦ λ e.
           let same : k ≡ l.segment-index = grind (arith, nat_tests) in
           let none : Segment = record { id = 0; start = 0; end = None } in
           let both : Some s ≡ Some (slice_index_or ss l.segment-index none) = sym at ∙ (ap (slice_get ss) same ∙ at_index ss l.segment-index none (omega arith)) in
           let is : slice_index_or ss l.segment-index none ≡ s = cc in
-          event_since (IsTrimOf who s n) old now new i.later.more i.later.seen
-          (subst (λ w. HasEvent now (IsTrimOf w s n) new) i.who (subst (λ (x : Segment). x.start < n → HasEvent now (IsTrimOf (t.who l.turns) x n) new) is step.trimmed below))
+          lets_go_since who old now new s n i.later.more i.later.seen
+          (subst (λ w. LetsGo w now s n new) i.who (subst (λ (x : Segment). x.start < n → LetsGo (t.who l.turns) now x n new) is step.trimmed below))
       | false ↦ λ e.
           let apart : k ≢ l.segment-index = grind (arith, nat_tests) in
-          event_until (IsTrimOf who s n) old now new step.later.more step.later.seen (i.trimmed k s (omega arith) at below)
+          lets_go_until who old now new s n step.later.more step.later.seen (i.trimmed k s (omega arith) at below)
     ] in
     record {
       later = later_trans p.law old now new i.later step.later;

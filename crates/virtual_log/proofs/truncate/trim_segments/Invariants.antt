@@ -1,8 +1,8 @@
 use Rattle.std.proofs.Common.{◌≡◌, ◌<◌, ℕ, Some, None}
 use Rattle.std.specs.Prelude.{slice_get}
 use Rattle.delos_types.specs.declared.chain.Segment.{Segment}
-use Rattle.virtual_log.specs.Turning.{Later, HasEvent}
-use Rattle.virtual_log.specs.Truncating.{IsTrimOf}
+use Rattle.virtual_log.specs.Turning.{Later}
+use Rattle.virtual_log.specs.Truncating.{LetsGo}
 use Rattle.virtual_log.specs.Saying.{SaysOnly}
 use Rattle.virtual_log.specs.Sealing.{SealsNone}
 use Rattle.virtual_log.specs.Causes.{CalmSince}
@@ -17,7 +17,7 @@ invariant-segment g l =
     record {
       later : Later p.law (t.seen l.fn.turns) (t.seen l.turns);
       who : t.who l.turns ≡ t.who l.fn.turns;
-      trimmed : (k : ℕ) (s : Segment) → k < l.segment-index → slice_get l.segments k ≡ Some s → s.start < l.n → HasEvent (t.seen l.fn.turns) (IsTrimOf (t.who l.fn.turns) s l.n) (t.seen l.turns);
+      trimmed : (k : ℕ) (s : Segment) → k < l.segment-index → slice_get l.segments k ≡ Some s → s.start < l.n → LetsGo (t.who l.fn.turns) (t.seen l.fn.turns) s l.n (t.seen l.turns);
       words : SaysOnly (may l.fn.chooser) (t.who l.fn.turns) (t.seen l.fn.turns) (t.seen l.turns);
       unsealed : SealsNone (t.who l.fn.turns) (t.seen l.fn.turns) (t.seen l.turns);
       calm : CalmSince (t.who l.fn.turns) (t.seen l.fn.turns) (t.seen l.turns);
