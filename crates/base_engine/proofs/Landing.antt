@@ -70,7 +70,7 @@ meets_on holds who old e (Landed pos) new h =
     (f.others ++ f.event ∷ f.rest, f.seen ∙ append_assoc old f.others (f.event ∷ f.rest))
 meets_on holds who old e (Lost x) new h = event_on who old new x h
 
-settles_on : (holds : List Event → ℕ → Entry → Type 0) (who : ℕ) (old new : List Event) (es : List Entry) (given : List Given) (before after : Option Cause) → Settles holds who old es new given before after → On old new
+pub settles_on : (holds : List Event → ℕ → Entry → Type 0) (who : ℕ) (old new : List Event) (es : List Entry) (given : List Given) (before after : Option Cause) → Settles holds who old es new given before after → On old new
 settles_on holds who old new [] given before after s = ([], s.0 ∙ sym (append-nil old))
 settles_on holds who old new (e ∷ es) given before after s = on_on old s.0 new (meets_on holds who old e s.1 s.0 s.3) (settles_on holds who s.0 new es s.2 (first_of before s.1) after s.5)
 
@@ -167,7 +167,7 @@ flushed_as : (origin : ℕ) (kept kept' : List Item) (p : Option Entry) → Flus
 flushed_as origin kept kept' None q = inr q.0
 flushed_as origin kept kept' (Some e) q = inl (e, refl, q.1.entry)
 
-no_push : (kept : List Item) (item : Item) → kept ++ item ∷ [] ≡ [] → ⊥
+pub no_push : (kept : List Item) (item : Item) → kept ++ item ∷ [] ≡ [] → ⊥
 no_push [] item h = cc
 no_push (x ∷ xs) item h = cc
 
@@ -209,7 +209,7 @@ item_landed holds who origin old m1 m2 new was o1 o2 is kept kept1 kept2 item on
 
 -- Where something failed, its cause is an own event since the outbox had none
 
-settles_keeps : (holds : List Event → ℕ → Entry → Type 0) (who : ℕ) (old new : List Event) (es : List Entry) (given : List Given) (before after : Option Cause) (x : Cause) → Settles holds who old es new given before after → before ≡ Some x → after ≡ Some x
+pub settles_keeps : (holds : List Event → ℕ → Entry → Type 0) (who : ℕ) (old new : List Event) (es : List Entry) (given : List Given) (before after : Option Cause) (x : Cause) → Settles holds who old es new given before after → before ≡ Some x → after ≡ Some x
 settles_keeps holds who old new [] given before after x s is = s.2 ∙ is
 settles_keeps holds who old new (e ∷ es) given before after x s is = settles_keeps holds who s.0 new es s.2 (first_of before s.1) after x s.5 (ap (λ o. first_of o s.1) is)
 

@@ -21,6 +21,10 @@ abbrev pub with_entry : OutboxView → Option Entry → OutboxView
 with_entry o None = o
 with_entry o (Some e) = record { entries = o.entries ++ e ∷ []; given = o.given; unsettled = o.unsettled }
 
+-- these entries are outstanding behind the others
+abbrev pub with_sent : OutboxView → List Entry → OutboxView
+with_sent o es = record { entries = o.entries ++ es; given = o.given; unsettled = o.unsettled }
+
 -- The oldest entry is carried to its end where there is no room for one more; what comes out then is outstanding.
 pub record Sent (holds : List Event → ℕ → Entry → Type 0) (who : ℕ) (old : List Event) (was : OutboxView) (queued : Option Entry → Type 0) (new : List Event) (is : OutboxView) : Type 0 where
   pub mid : OutboxView

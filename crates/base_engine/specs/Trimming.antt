@@ -1,6 +1,7 @@
 -- Up to where a node trims its log.
-use Rattle.std.specs.Prelude.{◌≡◌, ℕ, Bool, not, List, ◌++◌, length, Contains, map, filter, min, Some}
+use Rattle.std.specs.Prelude.{◌≡◌, ◌⊎◌, ℕ, Bool, not, List, [], ◌∷◌, ◌++◌, length, Contains, map, filter, min, Option, None, Some}
 use Rattle.delos_types.specs.Spaces.{SpaceMap}
+use Rattle.delos_types.specs.declared.cause.Cause.{Cause}
 use Rattle.delos_types.specs.declared.entry.Entry.{Entry}
 use Rattle.delos_types.specs.declared.item.Item.{Item}
 use Rattle.engine_api.specs.Members.{least}
@@ -13,8 +14,11 @@ use Rattle.legal_journal.specs.Journal.{state_of, IsLegal}
 use Rattle.virtual_log.specs.Truncating.{IsPrefixTrimmed}
 use Rattle.virtual_log.specs.Turning.{IsAbove}
 use Rattle.replica_api.specs.Replica.{ReplicaView, saved_in}
+use Rattle.base_engine.specs.declared.fault.Fault.{Fault}
+use Rattle.base_engine.specs.declared.fault.Fault.TheVariants.{Because, Memory}
 use Rattle.base_engine.specs.Following.{IsStateAt, IsAt}
-use Rattle.base_engine.specs.Settling.{Landed, Meets}
+use Rattle.base_engine.specs.Settling.{OutboxView, Landed, Meets, Settled, Answers}
+use Rattle.base_engine.specs.Proposing.{with_sent}
 
 -- a node is a member where it hasn't left
 abbrev pub is_member_in : SpaceMap → ℕ → Bool
@@ -79,3 +83,43 @@ pub record Trims (holds : List Event → ℕ → Entry → Type 0) (state : List
   pub asked : List Event
   pub landed : HasLanded holds who origin synced (trim_item position) asked
   pub below : TrimsBelow nodes who asked new v known trim
+
+-- An item went down with what waited, in one entry; or it waits too; or it didn't go down.
+abbrev pub GoesDown : ℕ → List Item → Item → List Entry → List Item → Type 0
+GoesDown origin kept item sent kept' =
+    ((sent ≡ packed origin (kept ++ item ∷ []) ∷ []) × (kept' ≡ [])) ⊎ (((sent ≡ []) × (kept' ≡ kept ++ item ∷ [])) ⊎ ((sent ≡ []) × (kept' ≡ kept)))
+
+-- All that was outstanding, and behind it the item with what waited, in one entry, was carried to its end, and this cause
+-- answers it. Nothing waits any more.
+pub record GoesThrough (holds : List Event → ℕ → Entry → Type 0) (who origin : ℕ) (old : List Event) (was : OutboxView) (kept : List Item) (item : Item) (cause : Option Cause) (new : List Event) (is : OutboxView) (kept' : List Item) : Type 0 where
+  pub answered : Answers holds who old (with_sent was (packed origin (kept ++ item ∷ []) ∷ [])) cause new is
+  pub none : kept' ≡ []
+
+-- .. or the first of that was, and the others are outstanding still
+pub record StopsShort (holds : List Event → ℕ → Entry → Type 0) (who origin : ℕ) (old : List Event) (was : OutboxView) (kept : List Item) (item : Item) (new : List Event) (is : OutboxView) (kept' : List Item) : Type 0 where
+  pub sent : List Entry
+  pub down : GoesDown origin kept item sent kept'
+  pub settled : Settled holds who old (with_sent was sent) new is
+
+-- a push of an item fails for the cause that answers it, or stops short
+abbrev pub Unpushed : (List Event → ℕ → Entry → Type 0) → ℕ → ℕ → List Event → OutboxView → List Item → Item → Fault → List Event → OutboxView → List Item → Type 0
+Unpushed holds who origin old was kept item Memory new is kept' = StopsShort holds who origin old was kept item new is kept'
+Unpushed holds who origin old was kept item (Because cause) new is kept' = GoesThrough holds who origin old was kept item (Some cause) new is kept'
+
+-- The request for a trim to some position went through, with this answer.
+pub record AsksThrough (holds : List Event → ℕ → Entry → Type 0) (who origin : ℕ) (old : List Event) (was : OutboxView) (kept : List Item) (cause : Option Cause) (new : List Event) (is : OutboxView) (kept' : List Item) : Type 0 where
+  pub position : ℕ
+  pub through : GoesThrough holds who origin old was kept (trim_item position) cause new is kept'
+
+-- What a trim that failed leaves of what was sent down. Without memory it may stop anywhere. For another cause: no tail was
+-- found, and nothing was sent or settled; or that cause answers what was outstanding and the request; or they were all
+-- appended, and the log was not trimmed.
+abbrev pub Untrimmed : (List Event → ℕ → Entry → Type 0) → ℕ → ℕ → List Event → OutboxView → List Item → Fault → List Event → OutboxView → List Item → Type 0
+Untrimmed holds who origin old was kept Memory new is kept' = (position : ℕ) × StopsShort holds who origin old was kept (trim_item position) new is kept'
+Untrimmed holds who origin old was kept (Because cause) new is kept' =
+    ((is ≡ was) × (kept' ≡ kept)) ⊎ (AsksThrough holds who origin old was kept (Some cause) new is kept' ⊎ AsksThrough holds who origin old was kept None new is kept')
+
+-- the fault is the cause that waited for a settling
+abbrev pub IsEarlier : Option Cause → Fault → Type 0
+IsEarlier None f = ⊥
+IsEarlier (Some cause) f = f ≡ Because cause

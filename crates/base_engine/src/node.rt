@@ -18,7 +18,7 @@ ghost use Rattle.base_engine.specs.Proposing.{Sent, Proposed, Refused, IsNear};
 ghost use Rattle.base_engine.specs.Node.{NodeView, NodeOk, Keeps};
 ghost use Rattle.base_engine.specs.Querying.{found_in};
 ghost use Rattle.base_engine.specs.Reading.{IsFront, IsExtendedBy};
-ghost use Rattle.base_engine.specs.Trimming.{least_of, trim_to, IsFloor, ShowsAll, Trims};
+ghost use Rattle.base_engine.specs.Trimming.{least_of, trim_to, IsFloor, ShowsAll, Trims, AsksThrough, Untrimmed, IsEarlier};
 
 use crate::fault::Fault;
 use crate::outbox::{Outbox, cause_of};
@@ -385,8 +385,12 @@ impl<L: SharedLog, R: Replica> Node<L, R> {
         ensures follows { Follows L.holds R.meaning self.new.seen self.new.replica }
         ensures trims { IfOk result (Trims L.holds R.meaning.state self.old.nodes self.old.who self.old.replica.origin self.old.seen self.new.seen self.new.replica self.new.known) }
 
-        // Where no earlier cause waits for a settling.
-        ensures blames { self.old.outbox.unsettled ≡ None → IfErr result (λ f. Blames self.old.who self.old.seen self.old.replica.faults f self.new.seen self.new.replica.faults) }
+        // All that was outstanding, and behind it the request with what waited, was appended. No session is given a cause.
+        ensures through { OnOk result (AsksThrough L.holds self.old.who self.old.replica.origin self.old.seen self.old.outbox self.old.replica.kept None self.new.seen self.new.outbox self.new.replica.kept) }
+        ensures untrimmed { IfErr result (λ f. Untrimmed L.holds self.old.who self.old.replica.origin self.old.seen self.old.outbox self.old.replica.kept f self.new.seen self.new.outbox self.new.replica.kept) }
+
+        // The cause that waited for a settling, or one of this call.
+        ensures blames { IfErr result (λ f. IsEarlier self.old.outbox.unsettled f ⊎ Blames self.old.who self.old.seen self.old.replica.faults f self.new.seen self.new.replica.faults) }
         ensures any_crash { AnyCrash self.old.replica.disk self.new.replica.disk (SpellsOne R.meaning.spells (IsFound L.holds R.meaning.state self.new.seen self.old.replica.cursor)) }
 
         // Nobody but a stop arms the disk, and a store is opened again with word 0 alone: one that was down, or failed, and is up
@@ -395,7 +399,7 @@ impl<L: SharedLog, R: Replica> Node<L, R> {
         ensures word { (self.new.replica.word ≡ self.old.replica.word) ⊎ (self.new.replica.word ≡ 0) }
         ensures opened { self.new.replica.down ≡ false → (self.old.replica.down ≡ true) ⊎ (self.old.replica.faults < self.new.replica.faults) → self.new.replica.word ≡ 0 }
         ensures down { self.new.replica.down ≡ true → (self.old.replica.down ≡ true) ⊎ Rose self.old.replica.faults self.new.replica.faults }
-        ensures twice { self.old.outbox.unsettled ≡ None → IfErr result (λ f. StoreTwice self.old.replica f self.new.replica) }
+        ensures twice { IfErr result (λ f. IsEarlier self.old.outbox.unsettled f ⊎ StoreTwice self.old.replica f self.new.replica) }
     {
         trim_now(
             self.alloc,

@@ -1,5 +1,5 @@
 //! The log goes on in its next loglet, and is trimmed up to where no member needs it.
-ghost use Rattle.std.specs.Prelude.{◌≡◌, ◌≢◌, ◌<◌, ◌≤◌, ◌^◌, ℕ, List, [], ◌∷◌, ◌++◌, None, All, length, min, unwrap_or, IfOk, IfErr, OnOk};
+ghost use Rattle.std.specs.Prelude.{◌≡◌, ◌≢◌, ◌⊎◌, ◌<◌, ◌≤◌, ◌^◌, ℕ, List, [], ◌∷◌, ◌++◌, None, All, length, min, unwrap_or, IfOk, IfErr, OnOk};
 ghost use Rattle.std.specs.Option.{option_map};
 ghost use Rattle.delos_types.specs.declared.entry.Entry.{Entry};
 ghost use Rattle.disk_model.specs.Crash.{AnyCrash};
@@ -15,7 +15,7 @@ ghost use Rattle.base_engine.specs.Arming.{LeavesArming, StoreTwice};
 ghost use Rattle.base_engine.specs.Reading.{IsFront, IsExtendedBy};
 ghost use Rattle.base_engine.specs.Following.{Follows, IsKnown, IsFound};
 ghost use Rattle.base_engine.specs.Settling.{view_of, MaySend};
-ghost use Rattle.base_engine.specs.Trimming.{least_of, trim_to, IsFloor, ShowsAll, IsLeastAtTail, HasLanded, TrimsBelow, Trims};
+ghost use Rattle.base_engine.specs.Trimming.{least_of, trim_to, IsFloor, ShowsAll, IsLeastAtTail, HasLanded, TrimsBelow, Trims, GoesThrough, Unpushed, AsksThrough, Untrimmed, IsEarlier};
 
 use crate::fault::{Fault, told};
 use crate::outbox::Outbox;
@@ -126,6 +126,8 @@ fn push_through<L: SharedLog, R: Replica>(
     ensures waiting { (R.shows replica.new).kept ≢ [] → L.Law.law.may (L.who log.old) (packed (R.shows replica.old).origin (R.shows replica.new).kept) }
     ensures any_crash { AnyCrash (R.shows replica.old).disk (R.shows replica.new).disk (SpellsOne R.meaning.spells (IsFound L.holds R.meaning.state (L.seen log.new) (R.shows replica.old).cursor)) }
     ensures landed { OnOk result (HasLanded L.holds (L.who log.old) (R.shows replica.old).origin (L.seen log.old) item (L.seen log.new)) }
+    ensures through { OnOk result (GoesThrough L.holds (L.who log.old) (R.shows replica.old).origin (L.seen log.old) (view_of outbox.old) (R.shows replica.old).kept item None (L.seen log.new) (view_of outbox.new) (R.shows replica.new).kept) }
+    ensures unpushed { IfErr result (λ f. Unpushed L.holds (L.who log.old) (R.shows replica.old).origin (L.seen log.old) (view_of outbox.old) (R.shows replica.old).kept item f (L.seen log.new) (view_of outbox.new) (R.shows replica.new).kept) }
     ensures blames { (view_of outbox.old).unsettled ≡ None → IfErr result (λ f. Blames (L.who log.old) (L.seen log.old) (R.shows replica.old).faults f (L.seen log.new) (R.shows replica.new).faults) }
     ensures twice { (view_of outbox.old).unsettled ≡ None → IfErr result (λ f. StoreTwice (R.shows replica.old) f (R.shows replica.new)) }
 {
@@ -257,8 +259,10 @@ pub fn trim_now<L: SharedLog, R: Replica>(
     ensures waiting { (R.shows replica.new).kept ≢ [] → L.Law.law.may (L.who log.old) (packed (R.shows replica.old).origin (R.shows replica.new).kept) }
     ensures any_crash { AnyCrash (R.shows replica.old).disk (R.shows replica.new).disk (SpellsOne R.meaning.spells (IsFound L.holds R.meaning.state (L.seen log.new) (R.shows replica.old).cursor)) }
     ensures trims { IfOk result (Trims L.holds R.meaning.state nodes (L.who log.old) (R.shows replica.old).origin (L.seen log.old) (L.seen log.new) (R.shows replica.new) (L.reaches log.new)) }
-    ensures blames { (view_of outbox.old).unsettled ≡ None → IfErr result (λ f. Blames (L.who log.old) (L.seen log.old) (R.shows replica.old).faults f (L.seen log.new) (R.shows replica.new).faults) }
-    ensures twice { (view_of outbox.old).unsettled ≡ None → IfErr result (λ f. StoreTwice (R.shows replica.old) f (R.shows replica.new)) }
+    ensures through { OnOk result (AsksThrough L.holds (L.who log.old) (R.shows replica.old).origin (L.seen log.old) (view_of outbox.old) (R.shows replica.old).kept None (L.seen log.new) (view_of outbox.new) (R.shows replica.new).kept) }
+    ensures untrimmed { IfErr result (λ f. Untrimmed L.holds (L.who log.old) (R.shows replica.old).origin (L.seen log.old) (view_of outbox.old) (R.shows replica.old).kept f (L.seen log.new) (view_of outbox.new) (R.shows replica.new).kept) }
+    ensures blames { IfErr result (λ f. IsEarlier (view_of outbox.old).unsettled f ⊎ Blames (L.who log.old) (L.seen log.old) (R.shows replica.old).faults f (L.seen log.new) (R.shows replica.new).faults) }
+    ensures twice { IfErr result (λ f. IsEarlier (view_of outbox.old).unsettled f ⊎ StoreTwice (R.shows replica.old) f (R.shows replica.new)) }
 {
     let position = match find_least(log, replica, nodes) {
         Ok(position) => position,
