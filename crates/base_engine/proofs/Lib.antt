@@ -5,6 +5,7 @@ pub mod Proposing
 pub mod Whole
 pub mod Extending
 pub mod Landing
+pub mod Beginning
 pub mod Pushing
 pub mod Freeing
 pub mod Showing

@@ -1,5 +1,5 @@
 -- What becomes of outstanding entries, and which causes that gives.
-use Rattle.std.specs.Prelude.{◌≡◌, ◌<◌, ℕ, Bool, true, false, ◌==◌, if◌then◌else◌, List, [], ◌∷◌, ◌++◌, Option, Some, None, filter_map}
+use Rattle.std.specs.Prelude.{◌≡◌, ◌<◌, ◌≤◌, ◌+◌, ℕ, Bool, true, false, ◌==◌, if◌then◌else◌, List, [], ◌∷◌, ◌++◌, Option, Some, None, filter_map, length}
 use Rattle.delos_types.specs.declared.entry.Entry.{Entry}
 use Rattle.delos_types.specs.Spelling.{IsSpellable}
 use Rattle.delos_types.specs.declared.cause.Cause.{Cause}
@@ -11,6 +11,7 @@ use Rattle.engine_api.specs.declared.content.Content.TheVariants as content
 use Rattle.engine_api.specs.declared.content.Placed.{Placed}
 use Rattle.engine_api.specs.Items.{unpack}
 use Rattle.virtual_log.specs.Turning.{IsAbove}
+use Rattle.virtual_log.specs.Attempts.{own_begun, own_refused}
 use Rattle.base_engine.specs.declared.outbox.Outbox.{Outbox}
 use Rattle.base_engine.specs.declared.outbox.Given.{Given}
 use Rattle.base_engine.specs.declared.fault.Fault.{Fault}
@@ -95,6 +96,16 @@ pub record LandsOldest (holds : List Event → ℕ → Entry → Type 0) (who : 
   pub oldest : was ≡ entry ∷ is
   pub met : Meets holds who old entry (Landed position) new
   pub within : position < known
+
+-- Who began so many appends since old, beyond those that were refused by loglets that were sealed.
+pub record Begins (who n : ℕ) (old new : List Event) : Type 0 where
+  pub more : List Event
+  pub seen : new ≡ old ++ more
+  pub count : own_begun who more ≡ own_refused who more + n
+
+-- .. one for each of these entries at most
+abbrev pub BeginsEachOnce : ℕ → List Event → List Entry → List Event → Type 0
+BeginsEachOnce who old es new = (n : ℕ) × (n ≤ length es) × Begins who n old new
 
 -- who may append this entry
 pub record MaySend (may : ℕ → Entry → Type 0) (who : ℕ) (e : Entry) : Type 0 where

@@ -13,7 +13,7 @@ ghost use Rattle.base_engine.specs.Causes.{Blames};
 ghost use Rattle.base_engine.specs.Arming.{FailsOnce, RecoversOnce, StoreTwice, FailsToOpen};
 ghost use Rattle.base_engine.specs.Following.{Follows, IsFound, Reaches, IsAt, GoesOn, EndsBy};
 ghost use Rattle.replica_api.specs.Replica.{SpellsOne, Survives, Flushes, Queues, Recovered, ArmedAsBefore, armed_by, saved_in};
-ghost use Rattle.base_engine.specs.Settling.{view_of, Settled, Lands, Answers, Failing, cause_in};
+ghost use Rattle.base_engine.specs.Settling.{view_of, Settled, Lands, Begins, BeginsEachOnce, Answers, Failing, cause_in};
 ghost use Rattle.base_engine.specs.Proposing.{Sent, Proposed, Refused, IsNear};
 ghost use Rattle.base_engine.specs.Node.{NodeView, NodeOk, Keeps};
 ghost use Rattle.base_engine.specs.Querying.{found_in};
@@ -300,6 +300,10 @@ impl<L: SharedLog, R: Replica> Node<L, R> {
 
         // With Ok all of them were appended, at positions that are known.
         ensures landed { OnOk result (Lands L.holds self.old.who self.old.seen self.old.outbox.entries self.new.seen self.new.known) }
+
+        // It began each of them once, beyond what loglets refused that were sealed; where one failed, at most once.
+        ensures begun { OnOk result (Begins self.old.who (length self.old.outbox.entries) self.old.seen self.new.seen) }
+        ensures once { BeginsEachOnce self.old.who self.old.seen self.old.outbox.entries self.new.seen }
         ensures failing { IfErr result (λ f. Failing L.holds self.old.who self.old.seen self.old.outbox f self.new.seen self.new.outbox) }
     {
         settle_all(self.alloc, &mut self.log, &mut self.outbox)

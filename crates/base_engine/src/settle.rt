@@ -1,9 +1,9 @@
 //! Outstanding entries are carried to their end, one after another.
-ghost use Rattle.std.specs.Prelude.{◌≡◌, ◌<◌, ◌≤◌, ◌+◌, [], ◌++◌, All, length, drop, None, IfErr, OnOk, OnErr, vec_len, vec_capacity};
+ghost use Rattle.std.specs.Prelude.{◌≡◌, ℕ, ◌<◌, ◌≤◌, ◌+◌, [], ◌++◌, All, length, drop, None, IfErr, OnOk, OnErr, vec_len, vec_capacity};
 ghost use Rattle.delos_types.specs.declared.cause.Cause.{Cause};
 ghost use Rattle.legal_journal.specs.Journal.{IsLegal};
 ghost use Rattle.virtual_log.specs.Turning.{Later};
-ghost use Rattle.base_engine.specs.Settling.{view_of, Carried, Settled, Lands, LandsOldest, MaySend, Lost, first_of, given_to, Answers, Failing};
+ghost use Rattle.base_engine.specs.Settling.{view_of, Carried, Settled, Lands, LandsOldest, Begins, BeginsEachOnce, MaySend, Lost, first_of, given_to, Answers, Failing};
 
 use crate::fault::{Fault, told};
 use crate::outbox::{Given, Outbox, SessionList};
@@ -26,6 +26,8 @@ pub fn carry_oldest<L: SharedLog>(
     ensures known { L.reaches log.old ≤ L.reaches log.new }
     ensures carried { OnOk result (Carried L.holds (L.who log.old) (L.seen log.old) (view_of outbox.old) (L.seen log.new) (view_of outbox.new)) }
     ensures landed { OnOk result (outbox.new.unsettled ≡ None → LandsOldest L.holds (L.who log.old) (L.seen log.old) outbox.old.entries.items (L.seen log.new) outbox.new.entries.items (L.reaches log.new)) }
+    ensures once { (n : ℕ) × (n ≤ 1) × Begins (L.who log.old) n (L.seen log.old) (L.seen log.new) }
+    ensures begun { OnOk result (outbox.new.unsettled ≡ None → Begins (L.who log.old) 1 (L.seen log.old) (L.seen log.new)) }
     ensures same { OnErr result (view_of outbox.new ≡ view_of outbox.old) }
     ensures may { All (λ e. MaySend L.Law.law.may (L.who log.new) e) outbox.new.entries.items }
 {
@@ -87,6 +89,8 @@ pub fn carry_all<L: SharedLog>(
     ensures known { L.reaches log.old ≤ L.reaches log.new }
     ensures settled { Settled L.holds (L.who log.old) (L.seen log.old) (view_of outbox.old) (L.seen log.new) (view_of outbox.new) }
     ensures landed { OnOk result (outbox.new.unsettled ≡ None → Lands L.holds (L.who log.old) (L.seen log.old) outbox.old.entries.items (L.seen log.new) (L.reaches log.new)) }
+    ensures once { BeginsEachOnce (L.who log.old) (L.seen log.old) outbox.old.entries.items (L.seen log.new) }
+    ensures begun { OnOk result (outbox.new.unsettled ≡ None → Begins (L.who log.old) (length outbox.old.entries.items) (L.seen log.old) (L.seen log.new)) }
     ensures none { OnOk result (outbox.new.entries.items ≡ []) }
     ensures may { All (λ e. MaySend L.Law.law.may (L.who log.new) e) outbox.new.entries.items }
 {
@@ -110,6 +114,8 @@ pub fn settle_all<L: SharedLog>(
     ensures known { L.reaches log.old ≤ L.reaches log.new }
     ensures calm { OnOk result (Answers L.holds (L.who log.old) (L.seen log.old) (view_of outbox.old) None (L.seen log.new) (view_of outbox.new)) }
     ensures landed { OnOk result (Lands L.holds (L.who log.old) (L.seen log.old) outbox.old.entries.items (L.seen log.new) (L.reaches log.new)) }
+    ensures once { BeginsEachOnce (L.who log.old) (L.seen log.old) outbox.old.entries.items (L.seen log.new) }
+    ensures begun { OnOk result (Begins (L.who log.old) (length outbox.old.entries.items) (L.seen log.old) (L.seen log.new)) }
     ensures failing { IfErr result (λ f. Failing L.holds (L.who log.old) (L.seen log.old) (view_of outbox.old) f (L.seen log.new) (view_of outbox.new)) }
     ensures may { All (λ e. MaySend L.Law.law.may (L.who log.new) e) outbox.new.entries.items }
     ensures few { length outbox.new.entries.items ≤ 4 }

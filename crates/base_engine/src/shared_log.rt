@@ -8,6 +8,7 @@ ghost use Rattle.legal_journal.specs.Laws.{Stands};
 ghost use Rattle.virtual_log.specs.Turning.{OnlyOwn, Later, IsAbove};
 ghost use Rattle.virtual_log.specs.Causes.{HasCause};
 ghost use Rattle.virtual_log.specs.Truncating.{IsPrefixTrimmed};
+ghost use Rattle.virtual_log.specs.Attempts.{AppendsOnce, AppendsAtMostOnce};
 ghost use Rattle.virtual_log.specs.Holding.{Reads, Stays};
 ghost use Rattle.virtual_log.specs.Sealing.{SealsLast};
 ghost use Rattle.base_engine.specs.Reading.{IsExtendedBy};
@@ -49,6 +50,10 @@ pub trait SharedLog {
         ensures held { IfOk result (λ pos. holds (seen self.new) pos entry.now) }
         ensures above { IfOk result (λ pos. IsAbove (who self.old) (seen self.old) pos (seen self.new)) }
         ensures known { IfOk result (λ pos. reaches self.new ≡ max (reaches self.old) (pos + 1)) }
+
+        // It began as many appends as were refused, and one more, of this entry alone; with a fault at most one more.
+        ensures once { OnOk result (AppendsOnce (who self.old) entry.now (seen self.old) (seen self.new)) }
+        ensures at_most { IfErr result (λ fault. AppendsAtMostOnce (who self.old) entry.now (seen self.old) fault (seen self.new)) }
         ensures err { IfErr result (λ fault. HasCause (who self.old) (seen self.old) fault (seen self.new)) }
         ensures unknown { OnErr result (reaches self.new ≡ reaches self.old) };
 

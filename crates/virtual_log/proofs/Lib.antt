@@ -16,6 +16,7 @@ pub mod Agreeing
 pub mod Sealing
 pub mod Saying
 pub mod Operating
+pub mod Attempts
 pub mod Outlasting
 pub mod Rising
 pub mod Sparing

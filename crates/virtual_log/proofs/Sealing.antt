@@ -25,11 +25,11 @@ not_both true = refl
 not_both false = refl
 
 -- .. of one event
-one : (Q : Event → Bool) (e : Event) → count_by Q (e ∷ []) ≡ cond (Q e) 1 0
+pub one : (Q : Event → Bool) (e : Event) → count_by Q (e ∷ []) ≡ cond (Q e) 1 0
 one Q e = zero-add (cond (Q e) 1 0)
 
 -- events of others aren't counted
-others_none : (P : Event → Bool) (who : ℕ) (es : List Event) → AreOthers who es → count_by (λ e. P e && (e.who == who)) es ≡ 0
+pub others_none : (P : Event → Bool) (who : ℕ) (es : List Event) → AreOthers who es → count_by (λ e. P e && (e.who == who)) es ≡ 0
 others_none P who [] h = refl
 others_none P who (e ∷ es) h =
     let Q : Event → Bool = λ x. P x && (x.who == who) in
@@ -38,7 +38,7 @@ others_none P who (e ∷ es) h =
     omega (arith, count-append Q (e ∷ []) es, one Q e, ap {B = ℕ} (λ b. cond b 1 0) here, others_none P who es h.1)
 
 -- .. nor is an event of which the test doesn't hold
-one_none : (P : Event → Bool) (who : ℕ) (e : Event) → P e ≡ false → count_by (λ x. P x && (x.who == who)) (e ∷ []) ≡ 0
+pub one_none : (P : Event → Bool) (who : ℕ) (e : Event) → P e ≡ false → count_by (λ x. P x && (x.who == who)) (e ∷ []) ≡ 0
 one_none P who e other = one (λ x. P x && (x.who == who)) e ∙ ap (λ b. cond (b && (e.who == who)) 1 0) other
 
 one_most : (P : Event → Bool) (who : ℕ) (e : Event) → count_by (λ x. P x && (x.who == who)) (e ∷ []) ≤ 1

@@ -4,6 +4,7 @@ pub mod Writing
 pub mod Sealing
 pub mod Saying
 pub mod Operating
+pub mod Attempts
 pub mod Tails
 pub mod Log
 pub mod Next

@@ -13,6 +13,7 @@ ghost use Rattle.virtual_log.specs.Next.{IsNext};
 ghost use Rattle.virtual_log.specs.Holding.{Holds, Reads};
 ghost use Rattle.virtual_log.specs.Saying.{SaysOnly};
 ghost use Rattle.virtual_log.specs.Operating.{ClosesOwn};
+ghost use Rattle.virtual_log.specs.Attempts.{AppendsOnce, AppendsAtMostOnce};
 
 use crate::fault::Fault;
 use crate::operation::{FoundTail, append_to, find_tail};
@@ -61,6 +62,8 @@ pub fn append_on<T: Turns, C: Chooser>(
     ensures same { C.may chooser.new ≡ C.may chooser.old }
     ensures err { IfErr result (λ fault. HasCause (T.who turns.old) (T.seen turns.old) fault (T.seen turns.new)) }
     ensures unsealed { SealsNone (T.who turns.old) (T.seen turns.old) (T.seen turns.new) }
+    ensures once { OnOk result (AppendsOnce (T.who turns.old) entry.now (T.seen turns.old) (T.seen turns.new)) }
+    ensures at_most { IfErr result (λ fault. AppendsAtMostOnce (T.who turns.old) entry.now (T.seen turns.old) fault (T.seen turns.new)) }
     ensures calm { OnOk result (CalmSince (T.who turns.old) (T.seen turns.old) (T.seen turns.new)) }
     ensures memory { IfErr result (λ fault. fault ≡ Memory → CalmSince (T.who turns.old) (T.seen turns.old) (T.seen turns.new)) }
     ensures closes { ClosesOwn (T.who turns.old) (T.seen turns.old) result (T.seen turns.new) }

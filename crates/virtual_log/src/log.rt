@@ -14,6 +14,7 @@ ghost use Rattle.virtual_log.specs.Extending.{IsExtension};
 ghost use Rattle.virtual_log.specs.Sealing.{SealsNone, SealsLast};
 ghost use Rattle.virtual_log.specs.Saying.{SaysOnly, words_of, is_among};
 ghost use Rattle.virtual_log.specs.Operating.{Operates, ClosesOwn};
+ghost use Rattle.virtual_log.specs.Attempts.{AppendsOnce, AppendsAtMostOnce};
 ghost use Rattle.virtual_log.specs.Truncating.{IsTruncated, IsPrefixTrimmed, Spares, TrimsLooked};
 
 use crate::calls::{Known, Next, append_on, read_from, tail_on};
@@ -156,6 +157,11 @@ impl<T: Turns, C: Chooser> VirtualLog<T, C> {
 
         // Each fault but `Memory` was an own event of this call.
         ensures err { IfErr result (λ fault. HasCause self.old.who self.old.seen fault self.new.seen) }
+
+        // It began as many appends as were refused, by loglets that were sealed, and one more, each of this entry. Where a
+        // loglet had no room or the register failed, it began no more than were refused; after another fault at most one.
+        ensures once { OnOk result (AppendsOnce self.old.who entry.now self.old.seen self.new.seen) }
+        ensures at_most { IfErr result (λ fault. AppendsAtMostOnce self.old.who entry.now self.old.seen fault self.new.seen) }
 
         // It began no Seal. Where it is answered Ok, and where memory was wanting, no own event told of a fault.
         ensures unsealed { SealsNone self.old.who self.old.seen self.new.seen }

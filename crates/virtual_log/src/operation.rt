@@ -11,6 +11,7 @@ ghost use Rattle.virtual_log.specs.Writing.{WroteNone};
 ghost use Rattle.virtual_log.specs.Sealing.{SealsNone, SealsAt};
 ghost use Rattle.virtual_log.specs.Saying.{SaysOnly};
 ghost use Rattle.virtual_log.specs.Operating.{ClosesOwn};
+ghost use Rattle.virtual_log.specs.Attempts.{AppendsOnce, AppendsNone, AppendsAtMostOnce, Idles};
 
 use crate::fault::Fault;
 use crate::turn::{begin, carry_on};
@@ -45,6 +46,9 @@ pub fn append_to<T: Turns, C: Chooser>(
     ensures same { C.may chooser.new ≡ C.may chooser.old }
     ensures err { IfErr result (λ fault. HasCause (T.who turns.old) (T.seen turns.old) fault (T.seen turns.new)) }
     ensures unsealed { SealsNone (T.who turns.old) (T.seen turns.old) (T.seen turns.new) }
+    ensures once { IfOk result (λ o. IfSome o (λ pos. AppendsOnce (T.who turns.old) entry.now (T.seen turns.old) (T.seen turns.new))) }
+    ensures refused { IfOk result (λ o. IfNone o (AppendsNone (T.who turns.old) entry.now (T.seen turns.old) (T.seen turns.new))) }
+    ensures at_most { IfErr result (λ fault. AppendsAtMostOnce (T.who turns.old) entry.now (T.seen turns.old) fault (T.seen turns.new)) }
     ensures calm { OnOk result (CalmSince (T.who turns.old) (T.seen turns.old) (T.seen turns.new)) }
     ensures memory { IfErr result (λ fault. fault ≡ Memory → CalmSince (T.who turns.old) (T.seen turns.old) (T.seen turns.new)) }
     ensures closes { ClosesOwn (T.who turns.old) (T.seen turns.old) result (T.seen turns.new) }
@@ -87,6 +91,7 @@ pub fn find_tail<T: Turns, C: Chooser>(
     ensures shut { ((state_of (T.seen turns.old)).cells segment.id).told.sealed ≡ true → IfOk result IsSealedTail }
     ensures quiet { IfOk result (λ x. WroteNone (T.who turns.old) (T.seen turns.old) (T.seen turns.new)) }
     ensures unsealed { SealsNone (T.who turns.old) (T.seen turns.old) (T.seen turns.new) }
+    ensures idle { Idles (T.who turns.old) (T.seen turns.old) (T.seen turns.new) }
     ensures words { SaysOnly (C.may chooser.old) (T.who turns.old) (T.seen turns.old) (T.seen turns.new) }
     ensures same { C.may chooser.new ≡ C.may chooser.old }
     ensures err { IfErr result (λ fault. HasCause (T.who turns.old) (T.seen turns.old) fault (T.seen turns.new)) }

@@ -1,5 +1,6 @@
 //! Single turns, and operations that are carried to their end.
 ghost use Rattle.std.specs.Prelude.{◌≡◌, ◌<◌, false, length, IfOk, OnOk, IfErr, OnErr, Option, None, Some};
+ghost use Rattle.delos_types.specs.declared.entry.Entry.{Entry};
 ghost use Rattle.legal_journal.specs.Told.{Running};
 ghost use Rattle.legal_journal.specs.Journal.{state_of, IsOwn, IsLegal};
 ghost use Rattle.legal_journal.specs.Turns.{MayTurn, HasRight, IsTurn};
@@ -12,6 +13,7 @@ ghost use Rattle.virtual_log.specs.Writing.{WroteNone};
 ghost use Rattle.virtual_log.specs.Sealing.{SealsNone, SealsAt};
 ghost use Rattle.virtual_log.specs.Saying.{SaysOnly, SaysNone};
 ghost use Rattle.virtual_log.specs.Operating.{Operation, Operates};
+ghost use Rattle.virtual_log.specs.Attempts.{IsOf, Attempts, AppendsNone, Idles, appends_in, refused_by};
 
 use crate::fault::Fault;
 use delos_types::chain::Chain;
@@ -30,6 +32,7 @@ pub fn look<T: Turns>(turns: &mut T) -> Result<(u64, Chain), Fault>
     ensures ok { IfOk result (λ x. Looked (T.who turns.old) (T.seen turns.old) x.0 x.1 (T.seen turns.new)) }
     ensures quiet { WroteNone (T.who turns.old) (T.seen turns.old) (T.seen turns.new) }
     ensures unsealed { SealsNone (T.who turns.old) (T.seen turns.old) (T.seen turns.new) }
+    ensures idle { Idles (T.who turns.old) (T.seen turns.old) (T.seen turns.new) }
     ensures silent { SaysNone (T.who turns.old) (T.seen turns.old) (T.seen turns.new) }
     ensures err { IfErr result (λ fault. HasCause (T.who turns.old) (T.seen turns.old) fault (T.seen turns.new)) }
     ensures calm { OnOk result (CalmSince (T.who turns.old) (T.seen turns.old) (T.seen turns.new)) }
@@ -54,6 +57,8 @@ pub fn begin<T: Turns>(turns: &mut T, cell: u32, op: Op) -> Result<Ticket, Fault
     ensures quiet { IfOk result (λ t. WroteNone (T.who turns.old) (T.seen turns.old) (T.seen turns.new)) }
     ensures unsealed { is_seal (FabricCall.Begin cell op) ≡ false → SealsNone (T.who turns.old) (T.seen turns.old) (T.seen turns.new) }
     ensures seals { SealsAt (T.who turns.old) cell (T.seen turns.old) (T.seen turns.new) }
+    ensures begun { IfOk result (λ t. (entry : Entry) → IsOf entry (FabricCall.Begin cell op) → Attempts (T.who turns.old) entry 0 (appends_in op) (T.seen turns.old) (T.seen turns.new)) }
+    ensures unbegun { OnErr result ((entry : Entry) → IsOf entry (FabricCall.Begin cell op) → AppendsNone (T.who turns.old) entry (T.seen turns.old) (T.seen turns.new)) }
     ensures silent { SaysNone (T.who turns.old) (T.seen turns.old) (T.seen turns.new) }
     ensures err { IfErr result (λ fault. HasCause (T.who turns.old) (T.seen turns.old) fault (T.seen turns.new)) }
     ensures calm { OnOk result (CalmSince (T.who turns.old) (T.seen turns.old) (T.seen turns.new)) }
@@ -77,6 +82,7 @@ pub fn forget<T: Turns>(turns: &mut T, cell: u32, ticket: Ticket) -> bool
     ensures turn { (answer : FabricAnswer) × IsForgotten answer result
         × IsTurn T.Law.law (T.who turns.old) (T.seen turns.old) (FabricCall.Forget cell ticket) answer (T.seen turns.new) }
     ensures unsealed { SealsNone (T.who turns.old) (T.seen turns.old) (T.seen turns.new) }
+    ensures idle { Idles (T.who turns.old) (T.seen turns.old) (T.seen turns.new) }
     ensures silent { SaysNone (T.who turns.old) (T.seen turns.old) (T.seen turns.new) }
     ensures calm { CalmSince (T.who turns.old) (T.seen turns.old) (T.seen turns.new) }
 {
@@ -105,6 +111,8 @@ pub fn carry_on<T: Turns, C: Chooser>(
         → Answered (T.who turns.old) (T.seen turns.old) cell ticket r a (T.seen turns.new)) }
     ensures quiet { IfOk result (λ a. WroteNone (T.who turns.old) (T.seen turns.old) (T.seen turns.new)) }
     ensures unsealed { SealsNone (T.who turns.old) (T.seen turns.old) (T.seen turns.new) }
+    ensures refused { IfOk result (λ a. (entry : Entry) → Attempts (T.who turns.old) entry (refused_by a) 0 (T.seen turns.old) (T.seen turns.new)) }
+    ensures idle { OnErr result (Idles (T.who turns.old) (T.seen turns.old) (T.seen turns.new)) }
     ensures words { SaysOnly (C.may chooser.old) (T.who turns.old) (T.seen turns.old) (T.seen turns.new) }
     ensures same { C.may chooser.new ≡ C.may chooser.old }
     ensures calm { IfOk result (λ a. IsCalmAnswer a → CalmSince (T.who turns.old) (T.seen turns.old) (T.seen turns.new)) }

@@ -12,6 +12,7 @@ ghost use Rattle.virtual_log.specs.Log.{GoesBy};
 ghost use Rattle.virtual_log.specs.Sealing.{SealsNone};
 ghost use Rattle.virtual_log.specs.Saying.{SaysNone};
 ghost use Rattle.virtual_log.specs.Operating.{Operates};
+ghost use Rattle.virtual_log.specs.Attempts.{Idles};
 
 use crate::calls::Known;
 use crate::fault::Fault;
@@ -81,6 +82,7 @@ fn write_over<T: Turns>(turns: &mut T, expected: u64, next: Chain) -> Result<Rep
     ensures who { T.who turns.new ≡ T.who turns.old }
     ensures ok { IfOk result (λ reply. IsTurn T.Law.law (T.who turns.old) (T.seen turns.old) (FabricCall.WriteChain expected next) (told_by reply) (T.seen turns.new)) }
     ensures unsealed { SealsNone (T.who turns.old) (T.seen turns.old) (T.seen turns.new) }
+    ensures idle { Idles (T.who turns.old) (T.seen turns.old) (T.seen turns.new) }
     ensures silent { SaysNone (T.who turns.old) (T.seen turns.old) (T.seen turns.new) }
     ensures err { IfErr result (λ fault. HasCause (T.who turns.old) (T.seen turns.old) fault (T.seen turns.new)) }
     ensures calm { OnOk result (CalmSince (T.who turns.old) (T.seen turns.old) (T.seen turns.new)) }
@@ -116,6 +118,7 @@ pub(crate) fn write<T: Turns>(
     ensures has { OnOk result (Has change known.new.chain) }
     ensures settled { IfOk result (Settles (T.who turns.old) (T.seen turns.old) change known.new.version known.new.chain (T.seen turns.new)) }
     ensures unsealed { SealsNone (T.who turns.old) (T.seen turns.old) (T.seen turns.new) }
+    ensures idle { Idles (T.who turns.old) (T.seen turns.old) (T.seen turns.new) }
     ensures silent { SaysNone (T.who turns.old) (T.seen turns.old) (T.seen turns.new) }
     ensures err { IfErr result (λ fault. HasCause (T.who turns.old) (T.seen turns.old) fault (T.seen turns.new)) }
     ensures calm { OnOk result (CalmSince (T.who turns.old) (T.seen turns.old) (T.seen turns.new)) }

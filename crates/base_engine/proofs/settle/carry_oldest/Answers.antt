@@ -4,6 +4,7 @@ use Rattle.virtual_log.proofs.OneTurn.{later_refl}
 use Rattle.delos_types.specs.declared.entry.Entry.{Entry}
 use Rattle.base_engine.specs.Settling.{Landed, MaySend}
 use Rattle.base_engine.proofs.Settling.{head_rest, head_drop, all_tail_by, first_landed, never_calm}
+use Rattle.base_engine.proofs.Beginning.{begins_none, begins_of, begins_at_most}
 use Rattle.base_engine.proofs.settle.carry_oldest.Goals as goal
 
 pub returns-in_err-sessions-clause-later : goal.returns-in_err-sessions-clause-later
@@ -45,3 +46,26 @@ returns-in-Because-clause-may g c =
     all_tail_by (MaySend may (t.who c.args.log.now)) (MaySend may (t.who c.append.new.self)) c.args.outbox.now.entries.items c.lose.new.outbox.entries.items c.index-2.result.now
     (head_drop c.args.outbox.now.entries.items c.lose.new.outbox.entries.items c.index-2.result.now c.requires.some c.index-2.ensures c.lose.ensures.entries)
     (λ (x : Entry) h. subst (λ w. MaySend may w x) (sym c.append.ensures.who) h) c.requires.may
+
+pub returns-in_err-sessions-clause-once : goal.returns-in_err-sessions-clause-once
+returns-in_err-sessions-clause-once g c =
+    let t = g.L.SharedLog in (0, omega arith, begins_none (t.who c.args.log.now) (t.seen c.args.log.now))
+
+pub returns-in_err-reserve-clause-once : goal.returns-in_err-reserve-clause-once
+returns-in_err-reserve-clause-once g c =
+    let t = g.L.SharedLog in (0, omega arith, begins_none (t.who c.args.log.now) (t.seen c.args.log.now))
+
+pub returns-in-Ok-clause-once : goal.returns-in-Ok-clause-once
+returns-in-Ok-clause-once g c = (1, omega arith, begins_of _ _ _ _ _ c.in-Ok.ensures.once)
+
+pub returns-in-Ok-clause-begun : goal.returns-in-Ok-clause-begun
+returns-in-Ok-clause-begun g c = λ _. begins_of _ _ _ _ _ c.in-Ok.ensures.once
+
+pub returns-in-Memory-clause-once : goal.returns-in-Memory-clause-once
+returns-in-Memory-clause-once g c = begins_at_most _ _ _ _ c.in-Err.fault c.in-Err.ensures.at_most
+
+pub returns-in-Because-clause-once : goal.returns-in-Because-clause-once
+returns-in-Because-clause-once g c = begins_at_most _ _ _ _ c.in-Err.fault c.in-Err.ensures.at_most
+
+pub returns-in-Because-clause-begun : goal.returns-in-Because-clause-begun
+returns-in-Because-clause-begun g c = λ calm. absurd (never_calm c.args.outbox.now.unsettled c.in-Because.cause (sym c.lose.ensures.unsettled ∙ calm))

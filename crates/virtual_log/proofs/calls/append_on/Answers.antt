@@ -5,6 +5,7 @@ use Rattle.delos_types.specs.declared.chain.Segment.{Segment}
 use Rattle.legal_journal.specs.Journal.{state_of}
 use Rattle.virtual_log.specs.Turning.{IsAbove, FirstTurn}
 use Rattle.virtual_log.specs.Causes.{HasCause}
+use Rattle.virtual_log.specs.Attempts.{AppendsOnce, AppendsNone}
 use Rattle.virtual_log.proofs.OneTurn.{later_trans, cause_since, later_refl}
 use Rattle.virtual_log.proofs.Appending.{above_since}
 use Rattle.virtual_log.proofs.Going.{last_there, there_later, goes_later, goes_further, reach_fits, goes_behind, fewer}
@@ -13,6 +14,7 @@ use Rattle.virtual_log.proofs.Saying.{says_refl, says_on}
 use Rattle.virtual_log.proofs.Sealing.{seals_refl, seals_then}
 use Rattle.virtual_log.proofs.Calming.{calm_refl, calm_then}
 use Rattle.virtual_log.proofs.Operating.{operates_refl, operates_then, left_then}
+use Rattle.virtual_log.proofs.Attempts.{idle_refl, attempts_then, at_most_none, at_most_then}
 use Rattle.virtual_log.proofs.calls.append_on.Goals as goal
 
 pub append_to-requires-clause-started : goal.append_to-requires-clause-started
@@ -214,6 +216,11 @@ segment-preserved g c =
           let who = t.who c.args.turns.now in
           let old = t.seen c.args.turns.now in
           operates_then who (t.who c.append_to.new.turns) old (t.seen c.append_to.new.turns) (t.seen c.chain_behind.new.turns) (c.in_ok-position.ensures.who ∙ i.who) (operates_then who (t.who l.turns) old now (t.seen c.append_to.new.turns) i.who i.closes c.in_ok-position.ensures.closes) c.in_ok-version.ensures.closes;
+      refused =
+          let who = t.who c.args.turns.now in
+          let old = t.seen c.args.turns.now in
+          let again = subst (λ o. IfNone o (AppendsNone (t.who l.turns) c.args.entry.now now mid)) c.in_default.is c.in_ok-position.ensures.refused in
+          attempts_then who (t.who c.append_to.new.turns) c.args.entry.now old mid end (c.in_ok-position.ensures.who ∙ i.who) (attempts_then who (t.who l.turns) c.args.entry.now old now mid i.who i.refused again) (from.idle c.args.entry.now);
       same = from.same ∙ (c.in_ok-position.ensures.same ∙ i.same);
     }
 
@@ -269,6 +276,7 @@ segment-init g c =
       above = λ pos new later x. x;
       words = says_refl (g.C.Chooser.may c.args.chooser.now) (t.who c.args.turns.now) old;
       unsealed = seals_refl (t.who c.args.turns.now) old;
+      refused = idle_refl (t.who c.args.turns.now) old c.args.entry.now;
       calm = calm_refl (t.who c.args.turns.now) old;
       closes = operates_refl (t.who c.args.turns.now) None old;
       same = refl;
@@ -389,3 +397,43 @@ returns-in-Some-clause-rises g c = c.segment.invariant.rises
 
 pub returns-in_err-version-clause-rises : goal.returns-in_err-version-clause-rises
 returns-in_err-version-clause-rises g c = c.segment.invariant.rises
+
+pub returns-in-Some-clause-once : goal.returns-in-Some-clause-once
+returns-in-Some-clause-once g c =
+    let t = g.T.Turns in
+    let who = t.who c.args.turns.now in
+    let old = t.seen c.args.turns.now in
+    let l = c.segment in
+    let i = l.invariant in
+    let now = t.seen l.turns in
+    let mid = t.seen c.append_to.new.turns in
+    let e = c.args.entry.now in
+    attempts_then who (t.who l.turns) e old now mid i.who i.refused (subst (λ o. IfSome o (λ pos. AppendsOnce (t.who l.turns) e now mid)) c.in-Some.is c.in_ok-position.ensures.once)
+
+pub returns-in_err-position-clause-at_most : goal.returns-in_err-position-clause-at_most
+returns-in_err-position-clause-at_most g c =
+    let t = g.T.Turns in
+    let who = t.who c.args.turns.now in
+    let old = t.seen c.args.turns.now in
+    let l = c.segment in
+    let i = l.invariant in
+    let now = t.seen l.turns in
+    let mid = t.seen c.append_to.new.turns in
+    let e = c.args.entry.now in
+    let r = err_from_is_err_and c.from_residual.result c.from_residual.ensures.1 in
+    rw (r.1, r.2) (at_most_then who (t.who l.turns) e old now mid c.in_err-position.field-0.0 i.who i.refused c.in_err-position.ensures.at_most)
+
+pub returns-in_err-version-clause-at_most : goal.returns-in_err-version-clause-at_most
+returns-in_err-version-clause-at_most g c =
+    let t = g.T.Turns in
+    let who = t.who c.args.turns.now in
+    let old = t.seen c.args.turns.now in
+    let l = c.segment in
+    let i = l.invariant in
+    let now = t.seen l.turns in
+    let mid = t.seen c.append_to.new.turns in
+    let e = c.args.entry.now in
+    let end = t.seen c.chain_behind.new.turns in
+    let again = subst (λ o. IfNone o (AppendsNone (t.who l.turns) e now mid)) c.in_default.is c.in_ok-position.ensures.refused in
+    let r = err_from_is_err_and c.from_residual-in_err-version.result c.from_residual-in_err-version.ensures.1 in
+    rw (r.1, r.2) (at_most_none who e old end c.in_err-version.field-0.0 (attempts_then who (t.who c.append_to.new.turns) e old mid end (c.in_ok-position.ensures.who ∙ i.who) (attempts_then who (t.who l.turns) e old now mid i.who i.refused again) (c.in_err-version.ensures.idle e)))

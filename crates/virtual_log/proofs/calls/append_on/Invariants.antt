@@ -8,6 +8,7 @@ use Rattle.virtual_log.specs.Saying.{SaysOnly}
 use Rattle.virtual_log.specs.Sealing.{SealsNone}
 use Rattle.virtual_log.specs.Causes.{CalmSince}
 use Rattle.virtual_log.specs.Operating.{Operates}
+use Rattle.virtual_log.specs.Attempts.{AppendsNone}
 use Rattle.virtual_log.proofs.calls.append_on.Given as goal
 
 abbrev pub invariant-segment : goal.invariant-segment
@@ -26,6 +27,7 @@ invariant-segment g l =
       unsealed : SealsNone (t.who l.fn.turns) (t.seen l.fn.turns) (t.seen l.turns);
       calm : CalmSince (t.who l.fn.turns) (t.seen l.fn.turns) (t.seen l.turns);
       closes : Operates (t.who l.fn.turns) None None (t.seen l.fn.turns) (t.seen l.turns);
+      refused : AppendsNone (t.who l.fn.turns) l.entry (t.seen l.fn.turns) (t.seen l.turns);
       same : may l.chooser ≡ may l.fn.chooser;
     }
 

@@ -1,4 +1,4 @@
-use Rattle.std.proofs.Common.{◌≡◌, refl, ◌+◌, ◌-◌, ◌++◌, Some, sym, subst, arith}
+use Rattle.std.proofs.Common.{inl, inr, ◌≡◌, refl, ◌+◌, ◌-◌, ◌++◌, Some, sym, subst, arith}
 use Rattle.std.specs.Prelude.{slice_get}
 use Rattle.delos_types.specs.declared.entry.Entry.{Entry}
 use Rattle.delos_types.specs.Spelling.{IsSpellable}
@@ -9,6 +9,7 @@ use Rattle.legal_journal.specs.Journal.{state_of}
 use Rattle.legal_journal.specs.Laws.{Stands}
 use Rattle.virtual_log.specs.Turning.{Answered}
 use Rattle.virtual_log.specs.declared.fault.Fault.TheVariants as fault
+use Rattle.virtual_log.specs.Attempts.{Attempts, refused_by}
 use Rattle.virtual_log.proofs.OneTurn.{own_by, lack_cause, cause_since, first_later}
 use Rattle.virtual_log.proofs.Appending.{may_append, started_within, placed_ok, sealed_ok}
 use Rattle.virtual_log.proofs.Saying.{says_refl, says_then}
@@ -18,6 +19,7 @@ use Rattle.virtual_log.proofs.Answering.{append_answers}
 use Rattle.std.proofs.lemmas.Result.{err_from_is_err_and}
 use Rattle.virtual_log.specs.Causes.{IsCalmAnswer, CalmSince}
 use Rattle.virtual_log.proofs.Operating.{operates_refl, operates_then, closes_none}
+use Rattle.virtual_log.proofs.Attempts.{idle_refl, attempts_then, one_stays, at_most_none}
 use Rattle.virtual_log.proofs.operation.append_to.Goals as goal
 
 pub begin-requires-clause-may : goal.begin-requires-clause-may
@@ -257,3 +259,40 @@ pub returns-in-NoQuorum-clause-closes : goal.returns-in-NoQuorum-clause-closes
 returns-in-NoQuorum-clause-closes g c =
     let t = g.T.Turns in
     operates_then (t.who c.args.turns.now) (t.who c.begin.new.turns) (t.seen c.args.turns.now) (t.seen c.begin.new.turns) (t.seen c.carry_on.new.turns) c.in_ok-ticket.ensures.who c.in_ok-ticket.ensures.opens c.in_ok-place.ensures.closes
+
+pub returns-in_err-copy-clause-at_most : goal.returns-in_err-copy-clause-at_most
+returns-in_err-copy-clause-at_most g c =
+    let t = g.T.Turns in
+    let r = err_from_is_err_and c.from_residual.result c.from_residual.ensures.1 in
+    rw (r.1, r.2) (inl (idle_refl (t.who c.args.turns.now) (t.seen c.args.turns.now) c.args.entry.now))
+
+pub returns-in_err-ticket-clause-at_most : goal.returns-in_err-ticket-clause-at_most
+returns-in_err-ticket-clause-at_most g c =
+    let t = g.T.Turns in
+    let r = err_from_is_err_and c.from_residual-in_err-ticket.result c.from_residual-in_err-ticket.ensures.1 in
+    rw (r.1, r.2) (at_most_none (t.who c.args.turns.now) c.args.entry.now (t.seen c.args.turns.now) (t.seen c.begin.new.turns) c.in_err-ticket.field-0.0 (c.in_err-ticket.ensures.unbegun c.args.entry.now c.in_ok-copy.ensures.cases))
+
+pub returns-in_err-place-clause-at_most : goal.returns-in_err-place-clause-at_most
+returns-in_err-place-clause-at_most g c =
+    let t = g.T.Turns in
+    let r = err_from_is_err_and c.from_residual-in_err-place.result c.from_residual-in_err-place.ensures.1 in
+    rw (r.1, r.2) (inr (attempts_then (t.who c.args.turns.now) (t.who c.begin.new.turns) c.args.entry.now (t.seen c.args.turns.now) (t.seen c.begin.new.turns) (t.seen c.carry_on.new.turns) c.in_ok-ticket.ensures.who (c.in_ok-ticket.ensures.begun c.args.entry.now c.in_ok-copy.ensures.cases)
+    (one_stays (t.who c.begin.new.turns) c.args.entry.now (t.seen c.begin.new.turns) (t.seen c.carry_on.new.turns) (c.in_err-place.ensures.idle c.args.entry.now))))
+
+pub returns-in-Placed-clause-once : goal.returns-in-Placed-clause-once
+returns-in-Placed-clause-once g c =
+    let t = g.T.Turns in
+    attempts_then (t.who c.args.turns.now) (t.who c.begin.new.turns) c.args.entry.now (t.seen c.args.turns.now) (t.seen c.begin.new.turns) (t.seen c.carry_on.new.turns) c.in_ok-ticket.ensures.who (c.in_ok-ticket.ensures.begun c.args.entry.now c.in_ok-copy.ensures.cases)
+    (one_stays (t.who c.begin.new.turns) c.args.entry.now (t.seen c.begin.new.turns) (t.seen c.carry_on.new.turns) (subst (λ a. Attempts (t.who c.begin.new.turns) c.args.entry.now (refused_by a) 0 (t.seen c.begin.new.turns) (t.seen c.carry_on.new.turns)) c.in-Placed.is (c.in_ok-place.ensures.refused c.args.entry.now)))
+
+pub returns-in-Sealed-clause-refused : goal.returns-in-Sealed-clause-refused
+returns-in-Sealed-clause-refused g c =
+    let t = g.T.Turns in
+    attempts_then (t.who c.args.turns.now) (t.who c.begin.new.turns) c.args.entry.now (t.seen c.args.turns.now) (t.seen c.begin.new.turns) (t.seen c.carry_on.new.turns) c.in_ok-ticket.ensures.who (c.in_ok-ticket.ensures.begun c.args.entry.now c.in_ok-copy.ensures.cases)
+    (subst (λ a. Attempts (t.who c.begin.new.turns) c.args.entry.now (refused_by a) 0 (t.seen c.begin.new.turns) (t.seen c.carry_on.new.turns)) c.in-Sealed.is (c.in_ok-place.ensures.refused c.args.entry.now))
+
+pub returns-in-NoQuorum-clause-at_most : goal.returns-in-NoQuorum-clause-at_most
+returns-in-NoQuorum-clause-at_most g c =
+    let t = g.T.Turns in
+    inr (attempts_then (t.who c.args.turns.now) (t.who c.begin.new.turns) c.args.entry.now (t.seen c.args.turns.now) (t.seen c.begin.new.turns) (t.seen c.carry_on.new.turns) c.in_ok-ticket.ensures.who (c.in_ok-ticket.ensures.begun c.args.entry.now c.in_ok-copy.ensures.cases)
+    (one_stays (t.who c.begin.new.turns) c.args.entry.now (t.seen c.begin.new.turns) (t.seen c.carry_on.new.turns) (subst (λ a. Attempts (t.who c.begin.new.turns) c.args.entry.now (refused_by a) 0 (t.seen c.begin.new.turns) (t.seen c.carry_on.new.turns)) c.in-NoQuorum.is (c.in_ok-place.ensures.refused c.args.entry.now))))

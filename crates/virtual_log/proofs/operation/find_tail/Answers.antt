@@ -5,6 +5,8 @@ use Rattle.legal_journal.specs.Told.{started}
 use Rattle.legal_journal.specs.Journal.{state_of}
 use Rattle.virtual_log.specs.Turning.{Answered}
 use Rattle.virtual_log.specs.declared.fault.Fault.TheVariants as fault
+use Rattle.delos_types.specs.declared.entry.Entry.{Entry}
+use Rattle.virtual_log.specs.Attempts.{Attempts, refused_by}
 use Rattle.virtual_log.proofs.OneTurn.{own_by, lack_cause, cause_since, first_later}
 use Rattle.virtual_log.proofs.Appending.{may_tail, started_within, tail_ok, end_ok, shut_ok, never_open}
 use Rattle.virtual_log.proofs.Writing.{wrote_trans, wrote_by}
@@ -15,6 +17,7 @@ use Rattle.virtual_log.proofs.Answering.{tail_answers}
 use Rattle.std.proofs.lemmas.Result.{err_from_is_err_and}
 use Rattle.virtual_log.specs.Causes.{IsCalmAnswer, CalmSince}
 use Rattle.virtual_log.proofs.Operating.{operates_then, closes_none}
+use Rattle.virtual_log.proofs.Attempts.{idle_trans, idle_as}
 use Rattle.virtual_log.proofs.operation.find_tail.Goals as goal
 
 pub begin-requires-clause-may : goal.begin-requires-clause-may
@@ -215,3 +218,30 @@ returns-in_err-length-clause-closes g c =
     let t = g.T.Turns in
     let r = err_from_is_err_and c.from_residual-in_err-length.result c.from_residual-in_err-length.ensures.1 in
     rw (r.1, r.2) (c.in_err-length.ensures.left.0, operates_then (t.who c.args.turns.now) (t.who c.begin.new.turns) (t.seen c.args.turns.now) (t.seen c.begin.new.turns) (t.seen c.carry_on.new.turns) c.in_ok-ticket.ensures.who c.in_ok-ticket.ensures.opens c.in_err-length.ensures.left.1)
+
+pub returns-in_err-ticket-clause-idle : goal.returns-in_err-ticket-clause-idle
+returns-in_err-ticket-clause-idle g c = λ entry. c.in_err-ticket.ensures.unbegun entry tt
+
+pub returns-in_err-length-clause-idle : goal.returns-in_err-length-clause-idle
+returns-in_err-length-clause-idle g c =
+    let t = g.T.Turns in
+    idle_trans (t.who c.args.turns.now) (t.seen c.args.turns.now) (t.seen c.begin.new.turns) (t.seen c.carry_on.new.turns) (λ entry. c.in_ok-ticket.ensures.begun entry tt)
+    (idle_as _ _ _ _ c.in_ok-ticket.ensures.who c.in_err-length.ensures.idle)
+
+pub returns-in-OpenTail-clause-idle : goal.returns-in-OpenTail-clause-idle
+returns-in-OpenTail-clause-idle g c =
+    let t = g.T.Turns in
+    idle_trans (t.who c.args.turns.now) (t.seen c.args.turns.now) (t.seen c.begin.new.turns) (t.seen c.carry_on.new.turns) (λ entry. c.in_ok-ticket.ensures.begun entry tt)
+    (idle_as _ _ _ _ c.in_ok-ticket.ensures.who (subst (λ a. (entry : Entry) → Attempts (t.who c.begin.new.turns) entry (refused_by a) 0 (t.seen c.begin.new.turns) (t.seen c.carry_on.new.turns)) c.in-OpenTail.is c.in_ok-length.ensures.refused))
+
+pub returns-in-SealedTail-clause-idle : goal.returns-in-SealedTail-clause-idle
+returns-in-SealedTail-clause-idle g c =
+    let t = g.T.Turns in
+    idle_trans (t.who c.args.turns.now) (t.seen c.args.turns.now) (t.seen c.begin.new.turns) (t.seen c.carry_on.new.turns) (λ entry. c.in_ok-ticket.ensures.begun entry tt)
+    (idle_as _ _ _ _ c.in_ok-ticket.ensures.who (subst (λ a. (entry : Entry) → Attempts (t.who c.begin.new.turns) entry (refused_by a) 0 (t.seen c.begin.new.turns) (t.seen c.carry_on.new.turns)) c.in-SealedTail.is c.in_ok-length.ensures.refused))
+
+pub returns-in-NoQuorum-clause-idle : goal.returns-in-NoQuorum-clause-idle
+returns-in-NoQuorum-clause-idle g c =
+    let t = g.T.Turns in
+    idle_trans (t.who c.args.turns.now) (t.seen c.args.turns.now) (t.seen c.begin.new.turns) (t.seen c.carry_on.new.turns) (λ entry. c.in_ok-ticket.ensures.begun entry tt)
+    (idle_as _ _ _ _ c.in_ok-ticket.ensures.who (subst (λ a. (entry : Entry) → Attempts (t.who c.begin.new.turns) entry (refused_by a) 0 (t.seen c.begin.new.turns) (t.seen c.carry_on.new.turns)) c.in-NoQuorum.is c.in_ok-length.ensures.refused))

@@ -11,6 +11,7 @@ use Rattle.virtual_log.proofs.Saying.{says_then}
 use Rattle.virtual_log.proofs.Sealing.{seals_then}
 use Rattle.virtual_log.proofs.Calming.{calm_then}
 use Rattle.virtual_log.proofs.Operating.{operates_then, left_then, closes_none}
+use Rattle.virtual_log.proofs.Attempts.{idle_then}
 use Rattle.virtual_log.proofs.replace.chain_behind.Goals as goal
 
 pub returns-then-last_of-segment-clause-given : goal.returns-then-last_of-segment-clause-given
@@ -240,3 +241,42 @@ returns-clause-closes g c =
     let second = c.in_ok-finish.ensures in
     let to_b = operates_then who (t.who c.look.new.turns) old a b first.who first.closes second.closes in
     operates_then who (t.who c.finish.new.turns) old b (t.seen c.look-2.new.turns) (second.who ∙ first.who) to_b c.in_ok-newer.ensures.closes
+
+pub returns-in_err-version-clause-idle : goal.returns-in_err-version-clause-idle
+returns-in_err-version-clause-idle g c = c.in_err-version.ensures.idle
+
+pub returns-then-last_of-segment-clause-idle : goal.returns-then-last_of-segment-clause-idle
+returns-then-last_of-segment-clause-idle g c = c.in_ok-version.ensures.idle
+
+pub returns-in_err-finish-clause-idle : goal.returns-in_err-finish-clause-idle
+returns-in_err-finish-clause-idle g c =
+    let t = g.T.Turns in
+    let who = t.who c.args.turns.now in
+    let old = t.seen c.args.turns.now in
+    let a = t.seen c.look.new.turns in
+    let first = c.in_ok-version.ensures in
+    idle_then who (t.who c.look.new.turns) old a (t.seen c.finish.new.turns) first.who first.idle c.in_err-finish.ensures.idle
+
+pub returns-in_err-newer-clause-idle : goal.returns-in_err-newer-clause-idle
+returns-in_err-newer-clause-idle g c =
+    let t = g.T.Turns in
+    let who = t.who c.args.turns.now in
+    let old = t.seen c.args.turns.now in
+    let a = t.seen c.look.new.turns in
+    let first = c.in_ok-version.ensures in
+    let b = t.seen c.finish.new.turns in
+    let second = c.in_ok-finish.ensures in
+    let to_b = idle_then who (t.who c.look.new.turns) old a b first.who first.idle second.idle in
+    idle_then who (t.who c.finish.new.turns) old b (t.seen c.look-2.new.turns) (second.who ∙ first.who) to_b c.in_err-newer.ensures.idle
+
+pub returns-clause-idle : goal.returns-clause-idle
+returns-clause-idle g c =
+    let t = g.T.Turns in
+    let who = t.who c.args.turns.now in
+    let old = t.seen c.args.turns.now in
+    let a = t.seen c.look.new.turns in
+    let first = c.in_ok-version.ensures in
+    let b = t.seen c.finish.new.turns in
+    let second = c.in_ok-finish.ensures in
+    let to_b = idle_then who (t.who c.look.new.turns) old a b first.who first.idle second.idle in
+    idle_then who (t.who c.finish.new.turns) old b (t.seen c.look-2.new.turns) (second.who ∙ first.who) to_b c.in_ok-newer.ensures.idle

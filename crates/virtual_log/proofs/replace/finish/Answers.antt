@@ -11,6 +11,7 @@ use Rattle.virtual_log.proofs.Saying.{says_then}
 use Rattle.virtual_log.proofs.Sealing.{seals_then}
 use Rattle.virtual_log.proofs.Calming.{calm_then}
 use Rattle.virtual_log.proofs.Operating.{operates_then, closes_none}
+use Rattle.virtual_log.proofs.Attempts.{idle_then}
 use Rattle.virtual_log.proofs.replace.finish.Goals as goal
 
 pub find_tail-requires-clause-started : goal.find_tail-requires-clause-started
@@ -136,3 +137,25 @@ returns-clause-closes g c =
     let new = t.seen c.write.new.turns in
     let first = c.in_ok-length.ensures in
     operates_then who user old mid new first.who first.closes c.in_ok-write.ensures.closes
+
+pub returns-in_err-write-clause-idle : goal.returns-in_err-write-clause-idle
+returns-in_err-write-clause-idle g c =
+    let t = g.T.Turns in
+    let who = t.who c.args.turns.now in
+    let old = t.seen c.args.turns.now in
+    let mid = t.seen c.find_tail.new.turns in
+    let user = t.who c.find_tail.new.turns in
+    let new = t.seen c.write.new.turns in
+    let first = c.in_ok-length.ensures in
+    idle_then who user old mid new first.who first.idle c.in_err-write.ensures.idle
+
+pub returns-clause-idle : goal.returns-clause-idle
+returns-clause-idle g c =
+    let t = g.T.Turns in
+    let who = t.who c.args.turns.now in
+    let old = t.seen c.args.turns.now in
+    let mid = t.seen c.find_tail.new.turns in
+    let user = t.who c.find_tail.new.turns in
+    let new = t.seen c.write.new.turns in
+    let first = c.in_ok-length.ensures in
+    idle_then who user old mid new first.who first.idle c.in_ok-write.ensures.idle

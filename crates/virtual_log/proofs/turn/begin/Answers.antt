@@ -6,6 +6,7 @@ use Rattle.virtual_log.proofs.Saying.{turn_says}
 use Rattle.virtual_log.proofs.Calming.{turn_calm}
 use Rattle.virtual_log.proofs.Answering.{begin_answers}
 use Rattle.virtual_log.proofs.Operating.{turn_hands, turn_keeps}
+use Rattle.virtual_log.proofs.Attempts.{turn_begins, turn_of, full_begun, memory_begun}
 use Rattle.virtual_log.proofs.turn.begin.Goals as goal
 
 pub returns-in-Begun-clause-ok : goal.returns-in-Begun-clause-ok
@@ -58,3 +59,12 @@ returns-in-Full-clause-refused g c = turn_keeps _ _ _ None _ _ _ c.in-Full.ensur
 
 pub returns-in-Memory-clause-refused : goal.returns-in-Memory-clause-refused
 returns-in-Memory-clause-refused g c = turn_keeps _ _ _ None _ _ _ c.in-Memory.ensures.turn refl
+
+pub returns-in-Begun-clause-begun : goal.returns-in-Begun-clause-begun
+returns-in-Begun-clause-begun g c = λ entry of. turn_begins _ _ _ _ _ _ _ entry c.in-Begun.ensures.turn of
+
+pub returns-in-Full-clause-unbegun : goal.returns-in-Full-clause-unbegun
+returns-in-Full-clause-unbegun g c = λ entry of. turn_of _ _ _ _ _ _ entry c.in-Full.ensures.turn (full_begun _ _) refl of
+
+pub returns-in-Memory-clause-unbegun : goal.returns-in-Memory-clause-unbegun
+returns-in-Memory-clause-unbegun g c = λ entry of. turn_of _ _ _ _ _ _ entry c.in-Memory.ensures.turn (memory_begun _ _) refl of

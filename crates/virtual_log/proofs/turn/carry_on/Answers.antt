@@ -4,6 +4,7 @@ use Rattle.legal_journal.specs.Journal.{state_of, IsOwn}
 use Rattle.legal_journal.specs.Turns.{MayTurn}
 use Rattle.virtual_log.specs.Turning.{OnlyOwn, Answered}
 use Rattle.virtual_log.specs.Operating.{Operation}
+use Rattle.virtual_log.specs.Attempts.{refused_by}
 use Rattle.virtual_log.proofs.OneTurn.{may_carry, may_drop, going_ok, going_still, done_ok, answered_since, nil, turn_later, later_refl, later_trans}
 use Rattle.virtual_log.proofs.Owning.{own_split, still_trans, still_refl}
 use Rattle.virtual_log.proofs.Writing.{turn_wrote, wrote_refl, wrote_trans, wrote_by}
@@ -12,6 +13,7 @@ use Rattle.virtual_log.proofs.Saying.{turn_says, says_refl, says_then, says_on}
 use Rattle.virtual_log.proofs.Calming.{turn_calm, calm_refl, calm_then}
 use Rattle.virtual_log.proofs.Answering.{carry_answers}
 use Rattle.virtual_log.proofs.Operating.{operates_refl, operates_then, turn_hands, turn_keeps, turn_forgets}
+use Rattle.virtual_log.proofs.Attempts.{turn_idles, turn_answers, idle_refl, idle_then, carried_then}
 use Rattle.virtual_log.proofs.turn.carry_on.Goals as goal
 
 pub turn-requires-clause-may : goal.turn-requires-clause-may
@@ -65,6 +67,8 @@ loop-answer-preserved g c =
           (wrote_by _ _ _ _ l.invariant.who (turn_wrote p.law _ _ _ _ _ c.in-Going.ensures.turn c.in-Going.ensures.turn.event refl));
       unsealed = seals_trans (t.who c.args.turns.now) (t.seen c.args.turns.now) (t.seen l.turns) (t.seen c.turn.new.self) l.invariant.unsealed
           (seals_as _ _ _ _ l.invariant.who (turn_none p.law _ _ _ _ _ c.in-Going.ensures.turn refl));
+      idle = idle_then (t.who c.args.turns.now) (t.who l.turns) (t.seen c.args.turns.now) (t.seen l.turns) (t.seen c.turn.new.self) l.invariant.who l.invariant.idle
+          (turn_idles p.law _ _ _ _ _ c.in-Going.ensures.turn refl refl (λ _. tt));
       calm = calm_then (t.who c.args.turns.now) (t.who l.turns) (t.seen c.args.turns.now) (t.seen l.turns) (t.seen c.turn.new.self) l.invariant.who l.invariant.calm
           (turn_calm p.law _ _ _ _ _ c.in-Going.ensures.turn tt);
       closes = operates_then (t.who c.args.turns.now) (t.who l.turns) (t.seen c.args.turns.now) (t.seen l.turns) (t.seen c.turn.new.self) l.invariant.who l.invariant.closes
@@ -96,6 +100,7 @@ loop-answer-init g c =
       still = λ alone. still_refl (state_of old);
       quiet = wrote_refl (t.who c.args.turns.now) old (nil old);
       unsealed = seals_refl (t.who c.args.turns.now) old;
+      idle = idle_refl (t.who c.args.turns.now) old;
       calm = calm_refl (t.who c.args.turns.now) old;
       closes = operates_refl (t.who c.args.turns.now) _ old;
       words = says_refl (g.C.Chooser.may c.args.chooser.now) (t.who c.args.turns.now) old;
@@ -212,3 +217,21 @@ returns-in-Memory-clause-left g c =
     (turn_keeps p.law (t.who l.turns) (t.seen l.turns) (Some o) _ _ _ c.in-Memory.ensures.turn (refl, refl, refl)) in
     let left = turn_forgets p.law (t.who c.turn.new.self) (t.seen c.turn.new.self) o _ _ c.forget.ensures.turn.2 in
     (left.0, operates_then (t.who c.args.turns.now) (t.who c.turn.new.self) (t.seen c.args.turns.now) (t.seen c.turn.new.self) (t.seen c.forget.new.turns) (c.turn.ensures.who ∙ l.invariant.who) carried left.1)
+
+pub returns-in-Done-clause-refused : goal.returns-in-Done-clause-refused
+returns-in-Done-clause-refused g c = λ entry.
+    let t = g.T.Turns in
+    let p = g.T.Law.Rules in
+    let l = c.loop-answer in
+    carried_then (t.who c.args.turns.now) (t.who l.turns) entry (refused_by c.in-Done.answer) (t.seen c.args.turns.now) (t.seen l.turns) (t.seen c.turn.new.self) l.invariant.who (l.invariant.idle entry)
+    (turn_answers p.law _ _ _ _ _ _ _ entry c.in-Done.ensures.turn)
+
+pub returns-in-Memory-clause-idle : goal.returns-in-Memory-clause-idle
+returns-in-Memory-clause-idle g c =
+    let t = g.T.Turns in
+    let p = g.T.Law.Rules in
+    let l = c.loop-answer in
+    idle_then (t.who c.args.turns.now) (t.who c.turn.new.self) (t.seen c.args.turns.now) (t.seen c.turn.new.self) (t.seen c.forget.new.turns) (c.turn.ensures.who ∙ l.invariant.who)
+    (idle_then (t.who c.args.turns.now) (t.who l.turns) (t.seen c.args.turns.now) (t.seen l.turns) (t.seen c.turn.new.self) l.invariant.who l.invariant.idle
+    (turn_idles p.law _ _ _ _ _ c.in-Memory.ensures.turn refl refl (λ _. tt)))
+    c.forget.ensures.idle

@@ -7,6 +7,7 @@ use Rattle.virtual_log.specs.Causes.{CalmSince}
 use Rattle.virtual_log.specs.Sealing.{SealsNone}
 use Rattle.virtual_log.specs.Saying.{SaysOnly}
 use Rattle.virtual_log.specs.Operating.{Operates}
+use Rattle.virtual_log.specs.Attempts.{Idles}
 use Rattle.virtual_log.proofs.turn.carry_on.Given as goal
 
 abbrev pub invariant-loop-answer : goal.invariant-loop-answer
@@ -21,6 +22,7 @@ invariant-loop-answer g l =
       still : OnlyOwn (t.who l.fn.turns) (t.seen l.fn.turns) (t.seen l.turns) → Still (state_of (t.seen l.fn.turns)) (state_of (t.seen l.turns));
       quiet : WroteNone (t.who l.fn.turns) (t.seen l.fn.turns) (t.seen l.turns);
       unsealed : SealsNone (t.who l.fn.turns) (t.seen l.fn.turns) (t.seen l.turns);
+      idle : Idles (t.who l.fn.turns) (t.seen l.fn.turns) (t.seen l.turns);
       calm : CalmSince (t.who l.fn.turns) (t.seen l.fn.turns) (t.seen l.turns);
       closes : Operates (t.who l.fn.turns) (Some (record { loglet = l.cell; ticket = l.ticket })) (Some (record { loglet = l.cell; ticket = l.ticket })) (t.seen l.fn.turns) (t.seen l.turns);
       words : SaysOnly (may l.fn.chooser) (t.who l.fn.turns) (t.seen l.fn.turns) (t.seen l.turns);

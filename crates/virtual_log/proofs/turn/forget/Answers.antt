@@ -2,6 +2,7 @@ use Rattle.std.proofs.Common.{refl}
 use Rattle.legal_journal.specs.declared.events.FabricAnswer.TheVariants.{Gone, NoTicket, Memory}
 use Rattle.virtual_log.proofs.Sealing.{turn_none}
 use Rattle.virtual_log.proofs.Saying.{turn_says}
+use Rattle.virtual_log.proofs.Attempts.{turn_idles}
 use Rattle.virtual_log.proofs.Calming.{turn_calm}
 use Rattle.virtual_log.proofs.Answering.{forget_answers}
 use Rattle.virtual_log.proofs.turn.forget.Goals as goal
@@ -44,3 +45,12 @@ returns-in-Memory-clause-calm g c = turn_calm _ _ _ _ _ _ c.in-Memory.ensures.tu
 
 pub unreachable-requires : goal.unreachable-requires
 unreachable-requires g c = forget_answers _ _ _ _ _ _ _ c.turn.ensures.turn c.in_default.not-Gone c.in_default.not-NoTicket c.in_default.not-Memory
+
+pub returns-in-Gone-clause-idle : goal.returns-in-Gone-clause-idle
+returns-in-Gone-clause-idle g c = turn_idles _ _ _ _ _ _ c.in-Gone.ensures.turn refl refl (λ _. tt)
+
+pub returns-in-NoTicket-clause-idle : goal.returns-in-NoTicket-clause-idle
+returns-in-NoTicket-clause-idle g c = turn_idles _ _ _ _ _ _ c.in-NoTicket.ensures.turn refl refl (λ _. tt)
+
+pub returns-in-Memory-clause-idle : goal.returns-in-Memory-clause-idle
+returns-in-Memory-clause-idle g c = turn_idles _ _ _ _ _ _ c.in-Memory.ensures.turn refl refl (λ _. tt)

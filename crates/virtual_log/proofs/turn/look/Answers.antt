@@ -6,6 +6,7 @@ use Rattle.virtual_log.proofs.Saying.{turn_says}
 use Rattle.virtual_log.proofs.Calming.{turn_calm}
 use Rattle.virtual_log.proofs.Answering.{look_answers}
 use Rattle.virtual_log.proofs.Operating.{turn_keeps}
+use Rattle.virtual_log.proofs.Attempts.{turn_idles}
 use Rattle.virtual_log.proofs.turn.look.Goals as goal
 
 pub returns-in-At-clause-ok : goal.returns-in-At-clause-ok
@@ -55,3 +56,12 @@ returns-in-Down-clause-closes g c = turn_keeps _ _ _ None _ _ _ c.in-Down.ensure
 
 pub returns-in-Memory-clause-closes : goal.returns-in-Memory-clause-closes
 returns-in-Memory-clause-closes g c = turn_keeps _ _ _ None _ _ _ c.in-Memory.ensures.turn refl
+
+pub returns-in-At-clause-idle : goal.returns-in-At-clause-idle
+returns-in-At-clause-idle g c = turn_idles _ _ _ _ _ _ c.in-At.ensures.turn refl refl (λ _. tt)
+
+pub returns-in-Down-clause-idle : goal.returns-in-Down-clause-idle
+returns-in-Down-clause-idle g c = turn_idles _ _ _ _ _ _ c.in-Down.ensures.turn refl refl (λ _. tt)
+
+pub returns-in-Memory-clause-idle : goal.returns-in-Memory-clause-idle
+returns-in-Memory-clause-idle g c = turn_idles _ _ _ _ _ _ c.in-Memory.ensures.turn refl refl (λ _. tt)

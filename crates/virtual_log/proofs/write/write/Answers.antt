@@ -14,6 +14,7 @@ use Rattle.virtual_log.proofs.Calming.{calm_refl, calm_then}
 use Rattle.virtual_log.proofs.Going.{goes_later}
 use Rattle.virtual_log.proofs.Changing.{granted_later, is_chain, admits, may_change, changed_has, changed_goes, changed_made, lost_goes, lost_later, lost, lacks_still, settled_since, changed_rises, lost_rises}
 use Rattle.virtual_log.proofs.Operating.{operates_refl, operates_then}
+use Rattle.virtual_log.proofs.Attempts.{idle_refl, idle_then}
 use Rattle.virtual_log.proofs.write.write.Goals as goal
 
 pub made-requires-clause-chain : goal.made-requires-clause-chain
@@ -318,6 +319,7 @@ write-preserved g c =
       lacks = lacks_still p.law (t.who l.turns) now k.version k.tail k.chain i.later.legal i.goes_by c.args.change c.in-Conflict.version c.in_ok-next.next c.in-Conflict.chain new i.lacks turn c.is_in.result c.if-is_in.false c.is_in.ensures;
       quiet = wrote_trans who old now new i.quiet (wrote_by who user now new i.who (lost p.law (t.who l.turns) now k.version k.tail k.chain i.later.legal i.goes_by c.in-Conflict.version c.in_ok-next.next c.in-Conflict.chain new turn).quiet);
       unsealed = seals_then who user old now new i.who i.unsealed c.in_ok-version.ensures.unsealed;
+      idle = idle_then who user old now new i.who i.idle c.in_ok-version.ensures.idle;
       silent = λ words. says_then words who user old now new i.who (i.silent words) (c.in_ok-version.ensures.silent words);
       calm = calm_then who user old now new i.who i.calm c.in_ok-version.ensures.calm;
       closes = operates_then who user old now new i.who i.closes c.in_ok-version.ensures.closes;
@@ -339,6 +341,7 @@ write-init g c =
       lacks = c.requires.lacks;
       quiet = wrote_refl who old (nil old);
       unsealed = seals_refl who old;
+      idle = idle_refl who old;
       silent = λ words. says_refl words who old;
       calm = calm_refl who old;
       closes = operates_refl who None old;
@@ -413,3 +416,45 @@ returns-then-is_in-clause-rises g c =
     let turn : IsTurn p.law user now (WriteChain k.version c.in_ok-next.next) (Conflict c.in-Conflict.version c.in-Conflict.chain) new = subst (λ r. IsTurn p.law user now (WriteChain k.version c.in_ok-next.next) (told_by r) new) c.in-Conflict.is c.in_ok-version.ensures.ok in
     let up = lost_rises p.law user now k.version k.tail k.chain i.later.legal i.goes_by c.in-Conflict.version c.in_ok-next.next c.in-Conflict.chain new turn in
     omega (arith, i.rises, up)
+
+pub returns-in_err-version-clause-idle : goal.returns-in_err-version-clause-idle
+returns-in_err-version-clause-idle g c =
+    let p = g.T.Law.Rules in
+    let t = g.T.Turns in
+    let l = c.write in
+    let i = l.invariant in
+    let k = l.known in
+    let now = t.seen l.turns in
+    let who = t.who c.args.turns.now in
+    let old = t.seen c.args.turns.now in
+    let user = t.who l.turns in
+    let new = t.seen c.write_over.new.turns in
+    idle_then who user old now new i.who i.idle c.in_err-version.ensures.idle
+
+pub returns-in-Written-clause-idle : goal.returns-in-Written-clause-idle
+returns-in-Written-clause-idle g c =
+    let p = g.T.Law.Rules in
+    let t = g.T.Turns in
+    let l = c.write in
+    let i = l.invariant in
+    let k = l.known in
+    let now = t.seen l.turns in
+    let who = t.who c.args.turns.now in
+    let old = t.seen c.args.turns.now in
+    let user = t.who l.turns in
+    let new = t.seen c.write_over.new.turns in
+    idle_then who user old now new i.who i.idle c.in_ok-version.ensures.idle
+
+pub returns-then-is_in-clause-idle : goal.returns-then-is_in-clause-idle
+returns-then-is_in-clause-idle g c =
+    let p = g.T.Law.Rules in
+    let t = g.T.Turns in
+    let l = c.write in
+    let i = l.invariant in
+    let k = l.known in
+    let now = t.seen l.turns in
+    let who = t.who c.args.turns.now in
+    let old = t.seen c.args.turns.now in
+    let user = t.who l.turns in
+    let new = t.seen c.write_over.new.turns in
+    idle_then who user old now new i.who i.idle c.in_ok-version.ensures.idle

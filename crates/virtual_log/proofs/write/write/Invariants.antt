@@ -9,6 +9,7 @@ use Rattle.virtual_log.specs.Saying.{SaysNone}
 use Rattle.virtual_log.specs.Causes.{CalmSince}
 use Rattle.virtual_log.specs.Changing.{Lacks, IsGranted}
 use Rattle.virtual_log.specs.Operating.{Operates}
+use Rattle.virtual_log.specs.Attempts.{Idles}
 use Rattle.virtual_log.proofs.write.write.Given as goal
 
 abbrev pub invariant-write : goal.invariant-write
@@ -25,6 +26,7 @@ invariant-write g l =
       lacks : Lacks l.change l.known.chain;
       quiet : WroteNone (t.who l.fn.turns) (t.seen l.fn.turns) (t.seen l.turns);
       unsealed : SealsNone (t.who l.fn.turns) (t.seen l.fn.turns) (t.seen l.turns);
+      idle : Idles (t.who l.fn.turns) (t.seen l.fn.turns) (t.seen l.turns);
       silent : SaysNone (t.who l.fn.turns) (t.seen l.fn.turns) (t.seen l.turns);
       calm : CalmSince (t.who l.fn.turns) (t.seen l.fn.turns) (t.seen l.turns);
       closes : Operates (t.who l.fn.turns) None None (t.seen l.fn.turns) (t.seen l.turns);

@@ -4,6 +4,7 @@ use Rattle.virtual_log.proofs.Saying.{turn_says}
 use Rattle.virtual_log.proofs.Calming.{turn_calm}
 use Rattle.virtual_log.proofs.Answering.{write_answers}
 use Rattle.virtual_log.proofs.Operating.{turn_keeps}
+use Rattle.virtual_log.proofs.Attempts.{turn_idles}
 use Rattle.virtual_log.proofs.write.write_over.Goals as goal
 
 pub returns-in-Written-clause-unsealed : goal.returns-in-Written-clause-unsealed
@@ -62,3 +63,18 @@ returns-in-Down-clause-closes g c = turn_keeps _ _ _ None _ _ _ c.in-Down.ensure
 
 pub returns-in-Memory-clause-closes : goal.returns-in-Memory-clause-closes
 returns-in-Memory-clause-closes g c = turn_keeps _ _ _ None _ _ _ c.in-Memory.ensures.turn refl
+
+pub returns-in-Written-clause-idle : goal.returns-in-Written-clause-idle
+returns-in-Written-clause-idle g c = turn_idles _ _ _ _ _ _ c.in-Written.ensures.turn refl refl (λ _. tt)
+
+pub returns-in-Conflict-clause-idle : goal.returns-in-Conflict-clause-idle
+returns-in-Conflict-clause-idle g c = turn_idles _ _ _ _ _ _ c.in-Conflict.ensures.turn refl refl (λ _. tt)
+
+pub returns-in-MetaFault-clause-idle : goal.returns-in-MetaFault-clause-idle
+returns-in-MetaFault-clause-idle g c = turn_idles _ _ _ _ _ _ c.in-MetaFault.ensures.turn refl refl (λ _. tt)
+
+pub returns-in-Down-clause-idle : goal.returns-in-Down-clause-idle
+returns-in-Down-clause-idle g c = turn_idles _ _ _ _ _ _ c.in-Down.ensures.turn refl refl (λ _. tt)
+
+pub returns-in-Memory-clause-idle : goal.returns-in-Memory-clause-idle
+returns-in-Memory-clause-idle g c = turn_idles _ _ _ _ _ _ c.in-Memory.ensures.turn refl refl (λ _. tt)
