@@ -1,5 +1,6 @@
 //! Where words come from.
-ghost use Rattle.std.specs.Prelude.{◌≡◌, ℕ, Bool, true, IsTrue, ◌==◌};
+ghost use Rattle.std.specs.Prelude.{◌≡◌, ℕ, List, [], ◌∷◌};
+ghost use Rattle.fate_words.specs.Drawing.{GivesAlone, GivesItself, GivesNext, pcg_at};
 ghost use Rattle.rand_core.specs.Pcg32Seed.{pcg32_seed};
 ghost use Rattle.rand_pcg.specs.Pcg.{pcg64, pcg64_of_seed};
 
@@ -8,14 +9,16 @@ use rand_core::utils::NextWord;
 use rand_pcg::Lcg128Xsl64;
 use std::marker::Model;
 
-/// Gives words, which make the choices of a run: any 64 bits, if it may give them. Takes no memory.
+/// Gives words, which make the choices of a run: any 64 bits, if it gives them where it stands. Takes no memory.
 pub trait Chooser {
-    /// Which words it may give.
-    ghost may: { Self → ℕ → Bool };
+    /// Where it stands, in numbers of its own.
+    ghost at: { Self → List ℕ };
+
+    /// Which words it gives where it stands, and where it stands then.
+    ghost gives: { List ℕ → ℕ → List ℕ → Type 0 };
 
     fn word(&mut self) -> u64
-        ensures given { IsTrue (may self.old result) }
-        ensures same { may self.new ≡ may self.old };
+        ensures given { gives (at self.old) result (at self.new) };
 }
 
 /// Gives 0 and nothing else, by which every message goes on, the oldest first.
@@ -23,7 +26,9 @@ pub trait Chooser {
 pub struct Calm;
 
 impl Chooser for Calm {
-    ghost may = { λ _ word. word == 0 };
+    ghost at = { λ _. [] };
+
+    ghost gives = { GivesAlone 0 };
 
     fn word(&mut self) -> u64 {
         0
@@ -46,12 +51,13 @@ impl Fixed {
 }
 
 impl Chooser for Fixed {
-    ghost may = { λ fixed word. word == fixed.word };
+    ghost at = { λ fixed. fixed.word ∷ [] };
+
+    ghost gives = { GivesItself };
 
     /// The word that it was made with.
     fn word(&mut self) -> u64
-        ensures given { IsTrue (⟦<Fixed as Chooser>⟧.may self.old result) }
-        ensures same { ⟦<Fixed as Chooser>⟧.may self.new ≡ ⟦<Fixed as Chooser>⟧.may self.old }
+        ensures given { ⟦<Fixed as Chooser>⟧.gives (⟦<Fixed as Chooser>⟧.at self.old) result (⟦<Fixed as Chooser>⟧.at self.new) }
         ensures word { result ≡ self.old.word }
         ensures stays { self.new ≡ self.old }
     {
@@ -60,7 +66,7 @@ impl Chooser for Fixed {
 }
 
 /// Gives the words of a PCG generator (XSL RR 128/64), from a seed. Contracts see it as that
-/// generator. It may give any word.
+/// generator.
 #[derive(Drop)]
 pub struct Seeded {
     generator: Lcg128Xsl64,
@@ -86,12 +92,13 @@ impl Seeded {
 }
 
 impl Chooser for Seeded {
-    ghost may = { λ _ _. true };
+    ghost at = { pcg_at };
+
+    ghost gives = { GivesNext };
 
     /// The generator's next 64 bits.
     fn word(&mut self) -> u64
-        ensures given { IsTrue (⟦<Seeded as Chooser>⟧.may self.old result) }
-        ensures same { ⟦<Seeded as Chooser>⟧.may self.new ≡ ⟦<Seeded as Chooser>⟧.may self.old }
+        ensures given { ⟦<Seeded as Chooser>⟧.gives (⟦<Seeded as Chooser>⟧.at self.old) result (⟦<Seeded as Chooser>⟧.at self.new) }
         ensures next { (result, self.new) ≡ pcg64 self.old }
     {
         self.generator.next_word()

@@ -23,10 +23,10 @@ use Rattle.virtual_log.specs.declared.fault.Fault.TheVariants as fault
 use Rattle.virtual_log.specs.Attempts.{is_begun, is_refused, own_begun, own_refused, IsOf, AreOf, Attempts, AppendsOnce, AppendsNone, Idles, AppendsAtMostOnce, appends_in, refused_by}
 use Rattle.virtual_log.proofs.Sealing.{one, others_none, one_none}
 
-begins : Event → Bool
+abbrev begins : Event → Bool
 begins e = is_begun e.call e.answer
 
-refuses : Event → Bool
+abbrev refuses : Event → Bool
 refuses e = is_refused e.answer
 
 same_user : (who : ℕ) → (who == who) ≡ true

@@ -1,93 +1,140 @@
--- Which words turns say.
-use Rattle.std.proofs.Common.{◌≡◌, ◌⊎◌, inl, inr, ℕ, zero, suc, ◌<◌, ◌^◌, ◌||◌, Bool, true, false, cond, IsTrue, List, [], ◌∷◌, ◌++◌, sym, ap, ◌∙◌, refl, subst, arith, append_assoc}
-use Rattle.std.specs.Prelude.{◌==◌}
-use Rattle.std.proofs.Math.Bool.{true-or, or-true}
+-- With which words turns carry.
+use Rattle.std.proofs.Common.{◌≡◌, ◌≢◌, ◌⊎◌, inl, inr, ℕ, ◌<◌, ◌^◌, Bool, true, false, cond, List, [], ◌∷◌, ◌++◌, sym, ap, ◌∙◌, refl, subst, arith, append_assoc}
+use Rattle.std.specs.Prelude.{◌==◌, Result, Ok, Err}
 use Rattle.std.proofs.lemmas.Bool.Decides.{nat_tests}
 use Rattle.std.proofs.lemmas.List.{append-nil}
+use Rattle.fate_words.specs.Drawing.{Draws}
 use Rattle.legal_journal.specs.Law.{Law}
 use Rattle.legal_journal.specs.declared.events.Event.{Event}
 use Rattle.legal_journal.specs.declared.events.FabricCall.{FabricCall}
 use Rattle.legal_journal.specs.declared.events.FabricCall.TheVariants.{Carry}
 use Rattle.legal_journal.specs.declared.events.FabricAnswer.{FabricAnswer}
+use Rattle.legal_journal.specs.declared.events.FabricAnswer.TheVariants as fabric
 use Rattle.legal_journal.specs.Turns.{AreOthers, IsTurn}
 use Rattle.legal_journal.proofs.Sealing.{one_or_none}
-use Rattle.virtual_log.specs.Saying.{HasWord, SayOnly, SaysOnly, words_below, words_of, is_among}
+use Rattle.virtual_log.specs.declared.fault.Fault.{Fault}
+use Rattle.virtual_log.specs.declared.fault.Fault.TheVariants.{Memory, NoQuorum, Full, Meta}
+use Rattle.virtual_log.specs.Saying.{word_of, words_by, SaysNone, SaysDrawn, SparesOne, DrawsBy, DrawsOwn}
 
-others_say : (words : ℕ → Bool) (who : ℕ) (es : List Event) → AreOthers who es → SayOnly words who es
-others_say words who [] h = tt
-others_say words who (e ∷ es) h = (λ same. absurd (h.0 same), others_say words who es h.1)
+words_append : (who : ℕ) (xs ys : List Event) → words_by who (xs ++ ys) ≡ words_by who xs ++ words_by who ys
+words_append who [] ys = refl
+words_append who (x ∷ xs) ys =
+    ap (λ ws. cond (x.who == who) (word_of x.call) [] ++ ws) (words_append who xs ys)
+    ∙ sym (append_assoc (cond (x.who == who) (word_of x.call) []) (words_by who xs) (words_by who ys))
 
-say_append : (words : ℕ → Bool) (who : ℕ) (xs ys : List Event) → SayOnly words who xs → SayOnly words who ys → SayOnly words who (xs ++ ys)
-say_append words who [] ys h k = k
-say_append words who (x ∷ xs) ys h k = (h.0, say_append words who xs ys h.1 k)
+draws_append : (gives : List ℕ → ℕ → List ℕ → Type 0) (xs ys a b c : List ℕ) → Draws gives a xs b → Draws gives b ys c → Draws gives a (xs ++ ys) c
+draws_append gives [] ys a b c h k = subst (λ s. Draws gives s ys c) h k
+draws_append gives (x ∷ xs) ys a b c h k = (h.0, h.1, h.2, draws_append gives xs ys h.0 b c h.3 k)
 
--- no event says anything
-pub says_refl : (words : ℕ → Bool) (who : ℕ) (a : List Event) → SaysOnly words who a a
-says_refl words who a = record { more = []; seen = sym (append-nil a); only = tt }
+-- what others carry isn't who's
+others_none : (who : ℕ) (es : List Event) → AreOthers who es → words_by who es ≡ []
+others_none who [] h = refl
+others_none who (e ∷ es) h = ap (λ b. cond b (word_of e.call) [] ++ words_by who es) (by (e.who == who) refl) ∙ others_none who es h.1
+  where
+    by : (b : Bool) → (e.who == who) ≡ b → (e.who == who) ≡ false
+    by true t = let same : e.who ≡ who = grind (arith, nat_tests) in absurd (h.0 same)
+    by false t = t
 
-says_trans : (words : ℕ → Bool) (who : ℕ) (a b c : List Event) → SaysOnly words who a b → SaysOnly words who b c → SaysOnly words who a c
-says_trans words who a b c f g = record {
-  more = f.more ++ g.more;
-  seen = g.seen ∙ (ap (λ l. l ++ g.more) f.seen ∙ append_assoc a f.more g.more);
-  only = say_append words who f.more g.more f.only g.only;
-}
+own_word : (who : ℕ) (call : FabricCall) (answer : FabricAnswer) → words_by who (record { who = who; call = call; answer = answer } ∷ []) ≡ word_of call
+own_word who call answer =
+    let same : (who == who) ≡ true = grind (arith, nat_tests) in
+    ap (λ b. cond b (word_of call) [] ++ []) same ∙ append-nil (word_of call)
 
--- what is said next is said by whoever is the same
-pub says_then : (words : ℕ → Bool) (who user : ℕ) (a b c : List Event) → user ≡ who → SaysOnly words who a b → SaysOnly words user b c → SaysOnly words who a c
-says_then words who user a b c same f g = says_trans words who a b c f (subst (λ k. SaysOnly words k b c) same g)
+-- no event carries anything
+pub none_refl : (who : ℕ) (a : List Event) → SaysNone who a a
+none_refl who a = record { more = []; seen = sym (append-nil a); none = refl }
 
--- .. and of words that are the same
-pub says_on : (words others : ℕ → Bool) (who user : ℕ) (a b c : List Event) → others ≡ words → user ≡ who → SaysOnly words who a b → SaysOnly others user b c → SaysOnly words who a c
-says_on words others who user a b c are same f g = says_then words who user a b c same f (subst (λ w. SaysOnly w user b c) are g)
+-- .. nor what whoever is the same does next
+pub none_then : (who user : ℕ) (a b c : List Event) → user ≡ who → SaysNone who a b → SaysNone user b c → SaysNone who a c
+none_then who user a b c same f later =
+    let g = subst (λ k. SaysNone k b c) same later in
+    record {
+      more = f.more ++ g.more;
+      seen = g.seen ∙ (ap (λ l. l ++ g.more) f.seen ∙ append_assoc a f.more g.more);
+      none = words_append who f.more g.more ∙ (ap (λ ws. ws ++ words_by who g.more) f.none ∙ g.none);
+    }
+
+pub drawn_refl : {gives : List ℕ → ℕ → List ℕ → Type 0} {x : List ℕ} (who : ℕ) (a : List Event) → SaysDrawn gives who x a x a
+drawn_refl {gives} {x} who a = record { more = []; seen = sym (append-nil a); drawn = refl }
+
+-- who carries nothing draws nothing
+pub none_drawn : {gives : List ℕ → ℕ → List ℕ → Type 0} {x : List ℕ} {who : ℕ} {a b : List Event} → SaysNone who a b → SaysDrawn gives who x a x b
+none_drawn {gives} {x} {who} {a} {b} h = record { more = h.more; seen = h.seen; drawn = subst (λ ws. Draws gives x ws x) (sym h.none) refl }
+
+-- what whoever is the same draws next
+pub drawn_then : {gives : List ℕ → ℕ → List ℕ → Type 0} {x y z : List ℕ} (who user : ℕ) (a b c : List Event) → user ≡ who → SaysDrawn gives who x a y b → SaysDrawn gives user y b z c → SaysDrawn gives who x a z c
+drawn_then {gives} {x} {y} {z} who user a b c same f later =
+    let g = subst (λ k. SaysDrawn gives k y b z c) same later in
+    record {
+      more = f.more ++ g.more;
+      seen = g.seen ∙ (ap (λ l. l ++ g.more) f.seen ∙ append_assoc a f.more g.more);
+      drawn = subst (λ ws. Draws gives x ws z) (sym (words_append who f.more g.more)) (draws_append gives (words_by who f.more) (words_by who g.more) x y z f.drawn g.drawn);
+    }
+
+-- where no word is left, none is whatever the fault, and whatever is answered
+pub by_drawn : {gives : List ℕ → ℕ → List ℕ → Type 0} {x y : List ℕ} (who : ℕ) (a b : List Event) (fault : Fault) → SaysDrawn gives who x a y b → DrawsBy gives who x a fault y b
+by_drawn {gives} {x} {y} who a b Memory h = record { last = y; says = h; spare = inl refl }
+by_drawn who a b (NoQuorum id unreached) h = h
+by_drawn who a b (Full id) h = h
+by_drawn who a b Meta h = h
+
+pub draws_any : {A : Type 0} {gives : List ℕ → ℕ → List ℕ → Type 0} {x y : List ℕ} (who : ℕ) (a b : List Event) (r : Result A Fault) → SaysDrawn gives who x a y b → DrawsOwn gives who x a r y b
+draws_any who a b (Ok o) h = h
+draws_any who a b (Err fault) h = by_drawn who a b fault h
+
+-- what is left by what whoever is the same does next
+pub spares_then : {gives : List ℕ → ℕ → List ℕ → Type 0} {x y z : List ℕ} (who user : ℕ) (a b c : List Event) → user ≡ who → SaysDrawn gives who x a y b → SparesOne gives user y b z c → SparesOne gives who x a z c
+spares_then who user a b c same f g = record { last = g.last; says = drawn_then who user a b c same f g.says; spare = g.spare }
+
+pub draws_then : {gives : List ℕ → ℕ → List ℕ → Type 0} {x y : List ℕ} (z : List ℕ) (who user : ℕ) (a b c : List Event) (fault : Fault) → user ≡ who → SaysDrawn gives who x a y b → DrawsBy gives user y b fault z c → DrawsBy gives who x a fault z c
+draws_then z who user a b c Memory same f g = spares_then who user a b c same f g
+draws_then z who user a b c (NoQuorum id unreached) same f g = drawn_then who user a b c same f g
+draws_then z who user a b c (Full id) same f g = drawn_then who user a b c same f g
+draws_then z who user a b c Meta same f g = drawn_then who user a b c same f g
+
+-- .. and by what carries nothing then
+pub spares_on : {gives : List ℕ → ℕ → List ℕ → Type 0} {x y : List ℕ} (who user : ℕ) (a b c : List Event) → user ≡ who → SparesOne gives who x a y b → SaysNone user b c → SparesOne gives who x a y c
+spares_on who user a b c same f g = record { last = f.last; says = drawn_then who user a b c same f.says (none_drawn g); spare = f.spare }
+
+-- .. whatever is answered
+pub draws_next : {A : Type 0} (gives : List ℕ → ℕ → List ℕ → Type 0) (x y : List ℕ) (who : ℕ) (a b c : List Event) (r : Result A Fault) → SaysNone who a b → DrawsOwn gives who x b r y c → DrawsOwn gives who x a r y c
+draws_next gives x y who a b c (Ok o) f g = drawn_then who who a b c refl (none_drawn f) g
+draws_next gives x y who a b c (Err fault) f g = draws_then y who who a b c fault refl (none_drawn f) g
 
 module _ (law : Law) (who : ℕ) (old : List Event) where
-  -- one turn
-  pub turn_says : (words : ℕ → Bool) (call : FabricCall) (answer : FabricAnswer) (new : List Event) → IsTurn law who old call answer new → HasWord words call → SaysOnly words who old new
-  turn_says words call answer new t has = record {
+  turn_words : (call : FabricCall) (answer : FabricAnswer) (new : List Event) (words : List ℕ) → (t : IsTurn law who old call answer new) → words_by who t.own ≡ words → words_by who (t.others ++ t.own) ≡ words
+  turn_words call answer new words t is = words_append who t.others t.own ∙ (ap (λ ws. ws ++ words_by who t.own) (others_none who t.others t.apart) ∙ is)
+
+  -- a turn that carries nothing
+  pub turn_silent : (call : FabricCall) (answer : FabricAnswer) (new : List Event) → IsTurn law who old call answer new → word_of call ≡ [] → SaysNone who old new
+  turn_silent call answer new t silent = record {
     more = t.others ++ t.own;
     seen = t.seen ∙ append_assoc old t.others t.own;
-    only = say_append words who t.others t.own (others_say words who t.others t.apart) (by (one_or_none who call answer t.own t.event));
+    none = turn_words call answer new [] t (by (one_or_none who call answer t.own t.event));
   }
     where
-      by : (t.own ≡ []) ⊎ (t.own ≡ record { who = who; call = call; answer = answer } ∷ []) → SayOnly words who t.own
-      by (inl none) = subst (SayOnly words who) (sym none) tt
-      by (inr one) = subst (SayOnly words who) (sym one) (λ _. has, tt)
+      by : (t.own ≡ []) ⊎ (t.own ≡ record { who = who; call = call; answer = answer } ∷ []) → words_by who t.own ≡ []
+      by (inl none) = ap (words_by who) none
+      by (inr one) = ap (words_by who) one ∙ (own_word who call answer ∙ silent)
 
--- The words that a view lists
+  module _ {gives : List ℕ → ℕ → List ℕ → Type 0} {x : List ℕ} where
+    turn_by : (call : FabricCall) (answer : FabricAnswer) (new : List Event) (z words : List ℕ) → (t : IsTurn law who old call answer new) → words_by who t.own ≡ words → Draws gives x words z → SaysDrawn gives who x old z new
+    turn_by call answer new z words t is h = record {
+      more = t.others ++ t.own;
+      seen = t.seen ∙ append_assoc old t.others t.own;
+      drawn = subst (λ ws. Draws gives x ws z) (sym (turn_words call answer new words t is)) h;
+    }
 
-among_first : (n : ℕ) (ws : List ℕ) → is_among (n ∷ ws) n ≡ true
-among_first n ws =
-    let same : (n == n) ≡ true = grind (arith, nat_tests) in
-    ap (λ b. b || is_among ws n) same ∙ true-or (is_among ws n)
+    -- a carry that has its event
+    pub turn_draws : {y : List ℕ} (i u word : ℕ) (answer : FabricAnswer) (new : List Event) → (t : IsTurn law who old (Carry i u word) answer new)
+        → t.own ≡ record { who = who; call = Carry i u word; answer = answer } ∷ [] → gives x word y → word < 2 ^ 64 → SaysDrawn gives who x old y new
+    turn_draws {y} i u word answer new t one given low =
+        turn_by (Carry i u word) answer new y (word ∷ []) t (ap (words_by who) one ∙ own_word who (Carry i u word) answer) (y, given, low, refl)
 
-among_rest : (b : Bool) (n word : ℕ) (ws : List ℕ) → is_among ws word ≡ true → is_among (cond b (n ∷ ws) ws) word ≡ true
-among_rest true n word ws h = ap (λ x. (n == word) || x) h ∙ or-true (n == word)
-among_rest false n word ws h = h
-
-among_below : (may : ℕ → Bool) (n word : ℕ) → word < n → may word ≡ true → is_among (words_below may n) word ≡ true
-unfolding words_below
-among_below may zero word l h = absurd (omega arith)
-among_below may (suc n) word l h = by (λ less. among_below may n word less h) (word == n) refl
-  where
-    by : (word < n → is_among (words_below may n) word ≡ true) → (b : Bool) → (word == n) ≡ b → is_among (cond (may n) (n ∷ words_below may n) (words_below may n)) word ≡ true
-    by rest true t =
-        let same : word ≡ n = grind (arith, nat_tests) in
-        ap (λ b. is_among (cond b (n ∷ words_below may n) (words_below may n)) word) (ap may (sym same) ∙ h)
-        ∙ subst (λ w. is_among (n ∷ words_below may n) w ≡ true) (sym same) (among_first n (words_below may n))
-    by rest false t = let less : word < n = grind (arith, nat_tests) in among_rest (may n) n word (words_below may n) (rest less)
-
-among_words : (may : ℕ → Bool) (word : ℕ) → word < 2 ^ 64 → IsTrue (may word) → IsTrue (is_among (words_of may) word)
-unfolding words_of
-among_words may word l h = among_below may (2 ^ 64) word l h
-
-listed_word : (may : ℕ → Bool) (call : FabricCall) → HasWord may call → HasWord (is_among (words_of may)) call
-listed_word may (Carry i t word) h = (among_words may word h.1 h.0, h.1)
-listed_word may call h = h
-
-listed : (may : ℕ → Bool) (who : ℕ) (es : List Event) → SayOnly may who es → SayOnly (is_among (words_of may)) who es
-listed may who [] h = tt
-listed may who (e ∷ es) h = (λ same. listed_word may e.call (h.0 same), listed may who es h.1)
-
--- what is said of words that may be given is said of the words that are listed
-pub says_among : (may : ℕ → Bool) (who : ℕ) (a b : List Event) → SaysOnly may who a b → SaysOnly (is_among (words_of may)) who a b
-says_among may who a b h = record { more = h.more; seen = h.seen; only = listed may who h.more h.only }
+    -- .. for which memory is wanting
+    pub turn_spares : {y : List ℕ} (i u word : ℕ) (new : List Event) → IsTurn law who old (Carry i u word) fabric.Memory new → gives x word y → word < 2 ^ 64 → SparesOne gives who x old y new
+    turn_spares {y} i u word new t given low = by t.event
+      where
+        by : (t.own ≡ []) ⊎ (t.own ≡ record { who = who; call = Carry i u word; answer = fabric.Memory } ∷ []) → SparesOne gives who x old y new
+        by (inl none) = record { last = x; says = turn_by (Carry i u word) fabric.Memory new x [] t (ap (words_by who) none) refl; spare = inr (word, (y, given, low, refl)) }
+        by (inr one) = record { last = y; says = turn_draws i u word fabric.Memory new t one given low; spare = inl refl }

@@ -1,6 +1,6 @@
 -- What the turns of an append that is underway bring.
 use Rattle.std.proofs.Common.{◌≡◌, ◌≢◌, ◌⊎◌, inl, inr, ℕ, ◌+◌, ◌-◌, ◌<◌, ◌≤◌, ◌^◌, max, List, [], ◌∷◌, ◌++◌, length, Option, Some, None, Bool, true, false, refl, sym, ap, ◌∙◌, subst, ⊎_elim, arith, append_assoc, IfOk, IfErr, IfSome, IfNone}
-use Rattle.std.specs.Prelude.{slice_get, nat_lt, IsTrue, Result, Ok, Err, if◌then◌else◌}
+use Rattle.std.specs.Prelude.{slice_get, nat_lt, Result, Ok, Err, if◌then◌else◌}
 use Rattle.std.proofs.lemmas.Bool.Decides.{nat_tests}
 use Rattle.delos_types.specs.declared.entry.Entry.{Entry}
 use Rattle.delos_types.specs.Spelling.{IsSpellable}
@@ -36,7 +36,6 @@ use Rattle.virtual_log.specs.declared.underway.Step.TheVariants.{Starting, Appen
 use Rattle.virtual_log.specs.declared.underway.Going.{Going}
 use Rattle.virtual_log.specs.Turning.{IsAbove, IsForgotten, Opened}
 use Rattle.virtual_log.specs.Causes.{IsCalm}
-use Rattle.virtual_log.specs.Saying.{HasWord}
 use Rattle.virtual_log.specs.Holding.{Holds}
 use Rattle.virtual_log.specs.Log.{GoesBy}
 use Rattle.virtual_log.specs.Underway.{IsLast, IsAppending, IsDropping, IsAt, IsKnown, IsGoing, HasTicket, AreApart, Leaves, LeavesNone, LeavesOthers, StaysGoing, OneTurn, due, Moves, ClosesTicket, Places, Forgets, Outcome, Went}
@@ -45,7 +44,6 @@ use Rattle.virtual_log.proofs.Appending.{unsealed_last, started_within, sealed_o
 use Rattle.virtual_log.proofs.Replacing.{lost_ok}
 use Rattle.virtual_log.proofs.Going.{last_there, goes_later, goes_onto, goes_now}
 use Rattle.virtual_log.proofs.Holding.{placed_held}
-use Rattle.virtual_log.proofs.Saying.{turn_says, says_refl, says_then}
 use Rattle.virtual_log.proofs.Sealing.{turn_none, seals_refl, seals_trans}
 use Rattle.virtual_log.proofs.Calming.{turn_calm, calm_refl, calm_then}
 use Rattle.virtual_log.proofs.Sparing.{closed_later, last_later, turn_is, turn_going, turn_last, turn_shut, turn_dropping, ticket_begun}
@@ -60,14 +58,14 @@ by_step P g step is h = subst (λ x. P (at_step g.entry x)) (sym is) h
 pub to_step : (P : Going → Type 0) (g : Going) (step : Step) → g.step ≡ step → P g → P (at_step g.entry step)
 to_step P g step is h = subst (λ x. P (at_step g.entry x)) is h
 
-pub went_by : {law : Law} {words : ℕ → Bool} {who : ℕ} {old : List Event} {k : Known} {new : List Event} {k' : Known} {g' : Going} {r : Result (Option ℕ) Fault} (g : Going) (step : Step) → g.step ≡ step
-    → Went law words who old k (at_step g.entry step) new k' g' r → Went law words who old k g new k' g' r
-went_by {law} {words} {who} {old} {k} {new} {k'} {g'} {r} g step is h = by_step (λ (x : Going). Went law words who old k x new k' g' r) g step is h
+pub went_by : {law : Law} {who : ℕ} {old : List Event} {k : Known} {new : List Event} {k' : Known} {g' : Going} {r : Result (Option ℕ) Fault} (g : Going) (step : Step) → g.step ≡ step
+    → Went law who old k (at_step g.entry step) new k' g' r → Went law who old k g new k' g' r
+went_by {law} {who} {old} {k} {new} {k'} {g'} {r} g step is h = by_step (λ (x : Going). Went law who old k x new k' g' r) g step is h
 
 -- .. and stays so
-pub went_still : {law : Law} {words : ℕ → Bool} {who : ℕ} {old : List Event} {k : Known} {new : List Event} {k' : Known} {r : Result (Option ℕ) Fault} (g : Going) (step : Step) → g.step ≡ step
-    → Went law words who old k (at_step g.entry step) new k' (at_step g.entry step) r → Went law words who old k g new k' g r
-went_still {law} {words} {who} {old} {k} {new} {k'} {r} g step is h = by_step (λ (x : Going). Went law words who old k x new k' x r) g step is h
+pub went_still : {law : Law} {who : ℕ} {old : List Event} {k : Known} {new : List Event} {k' : Known} {r : Result (Option ℕ) Fault} (g : Going) (step : Step) → g.step ≡ step
+    → Went law who old k (at_step g.entry step) new k' (at_step g.entry step) r → Went law who old k g new k' g r
+went_still {law} {who} {old} {k} {new} {k'} {r} g step is h = by_step (λ (x : Going). Went law who old k x new k' x r) g step is h
 
 pub going_by : {may : ℕ → Entry → Type 0} {who : ℕ} {early seen : List Event} {c : Chain} (g : Going) (step : Step) → g.step ≡ step → IsGoing may who early seen c g → IsGoing may who early seen c (at_step g.entry step)
 going_by {may} {who} {early} {seen} {c} g step is h = to_step (λ (x : Going). IsGoing may who early seen c x) g step is h
@@ -243,16 +241,15 @@ module _ (law : Law) (who : ℕ) (old : List Event) (legal : IsLegal law old) wh
   forgot_left j u fabric.Memory step new h f = inl (subst (λ (x : Step). HasTicket x j u) (sym f) (refl, refl))
   forgot_left j u answer step new h f = absurd f
 
-module _ (law : Law) (words : ℕ → Bool) (who : ℕ) (old : List Event) (k : Known) (legal : IsLegal law old) (goes : GoesBy (state_of old) k.version k.chain k.tail) where
+module _ (law : Law) (who : ℕ) (old : List Event) (k : Known) (legal : IsLegal law old) (goes : GoesBy (state_of old) k.version k.chain k.tail) where
   still_goes : (call : FabricCall) (answer : FabricAnswer) (new : List Event) → IsTurn law who old call answer new → GoesBy (state_of new) k.version k.chain k.tail
   still_goes call answer new h = goes_later law old new k.version k.tail k.chain (turn_later law who old call answer new h) goes
 
-  made : (call : FabricCall) (answer : FabricAnswer) (new : List Event) (k' : Known) (g g' : Going) (r : Result (Option ℕ) Fault) → IsTurn law who old call answer new → HasWord words call → is_seal call ≡ false → GoesBy (state_of new) k'.version k'.chain k'.tail
-      → g'.entry ≡ g.entry → LeavesNone g.step new g'.step → LeavesOthers law.may who old k.chain g new k'.chain g' → Outcome law.may who old k g new k' g' r → Went law words who old k g new k' g' r
-  made call answer new k' g g' r h has other goes' same left others outcome = record {
+  made : (call : FabricCall) (answer : FabricAnswer) (new : List Event) (k' : Known) (g g' : Going) (r : Result (Option ℕ) Fault) → IsTurn law who old call answer new → is_seal call ≡ false → GoesBy (state_of new) k'.version k'.chain k'.tail
+      → g'.entry ≡ g.entry → LeavesNone g.step new g'.step → LeavesOthers law.may who old k.chain g new k'.chain g' → Outcome law.may who old k g new k' g' r → Went law who old k g new k' g' r
+  made call answer new k' g g' r h other goes' same left others outcome = record {
     later = turn_later law who old call answer new h;
     goes_by = goes';
-    says = turn_says law who old words call answer new h has;
     unsealed = turn_none law who old call answer new h other;
     entry = same;
     left = left;
@@ -306,11 +303,10 @@ module _ (law : Law) (words : ℕ → Bool) (who : ℕ) (old : List Event) (k : 
 
   -- Want of memory, and faults
 
-  pub no_turn : (g : Going) → Went law words who old k g old k g (Err fault.Memory)
+  pub no_turn : (g : Going) → Went law who old k g old k g (Err fault.Memory)
   no_turn g = record {
     later = later_refl law old legal;
     goes_by = goes;
-    says = says_refl words who old;
     unsealed = seals_refl who old;
     entry = refl;
     left = λ i u x. inl x;
@@ -318,19 +314,19 @@ module _ (law : Law) (words : ℕ → Bool) (who : ℕ) (old : List Event) (k : 
     outcome = (refl, calm_refl who old, λ early x. x);
   }
 
-  pub no_memory : (call : FabricCall) (new : List Event) (g : Going) → IsTurn law who old call fabric.Memory new → HasWord words call → is_seal call ≡ false → ((i t : ℕ) → Leaves i t call) → Went law words who old k g new k g (Err fault.Memory)
-  no_memory call new g h has other leaves =
-      made call fabric.Memory new k g g (Err fault.Memory) h has other (still_goes call fabric.Memory new h) refl (λ i u x. inl x)
+  pub no_memory : (call : FabricCall) (new : List Event) (g : Going) → IsTurn law who old call fabric.Memory new → is_seal call ≡ false → ((i t : ℕ) → Leaves i t call) → Went law who old k g new k g (Err fault.Memory)
+  no_memory call new g h other leaves =
+      made call fabric.Memory new k g g (Err fault.Memory) h other (still_goes call fabric.Memory new h) refl (λ i u x. inl x)
       (free_others call fabric.Memory new k.chain g g h leaves (omega arith) (λ i t x. x))
       (refl, turn_calm law who old call fabric.Memory new h tt, λ early x. turn_going law who old call fabric.Memory new h early k.chain k.chain g (omega arith) (λ i t _. leaves i t) x)
 
-  pub failed : (call : FabricCall) (answer : FabricAnswer) (new : List Event) (g : Going) (f : Fault) → IsTurn law who old call answer new → HasWord words call → is_seal call ≡ false → ((i t : ℕ) → Leaves i t call) → Outcome law.may who old k g new k g (Err f) → Went law words who old k g new k g (Err f)
-  failed call answer new g f h has other leaves outcome =
-      made call answer new k g g (Err f) h has other (still_goes call answer new h) refl (λ i u x. inl x) (free_others call answer new k.chain g g h leaves (omega arith) (λ i t x. x)) outcome
+  pub failed : (call : FabricCall) (answer : FabricAnswer) (new : List Event) (g : Going) (f : Fault) → IsTurn law who old call answer new → is_seal call ≡ false → ((i t : ℕ) → Leaves i t call) → Outcome law.may who old k g new k g (Err f) → Went law who old k g new k g (Err f)
+  failed call answer new g f h other leaves outcome =
+      made call answer new k g g (Err f) h other (still_goes call answer new h) refl (λ i u x. inl x) (free_others call answer new k.chain g g h leaves (omega arith) (λ i t x. x)) outcome
 
-  pub lacked : (j u word n : ℕ) (new : List Event) (g : Going) (r : Running) → IsTurn law who old (Carry j u word) (fabric.Done (answers.NoQuorum n)) new → IsOwn ((state_of old).cells j) who u r → HasTicket g.step j u → IsTrue (words word) × (word < 2 ^ 64) → Went law words who old k g new k g (Err (fault.NoQuorum j n))
-  lacked j u word n new g r h own has word_ok =
-      made (Carry j u word) (fabric.Done (answers.NoQuorum n)) new k g g (Err (fault.NoQuorum j n)) h word_ok refl (still_goes _ _ new h) refl (λ i u x. inl x)
+  pub lacked : (j u word n : ℕ) (new : List Event) (g : Going) (r : Running) → IsTurn law who old (Carry j u word) (fabric.Done (answers.NoQuorum n)) new → IsOwn ((state_of old).cells j) who u r → HasTicket g.step j u → Went law who old k g new k g (Err (fault.NoQuorum j n))
+  lacked j u word n new g r h own has =
+      made (Carry j u word) (fabric.Done (answers.NoQuorum n)) new k g g (Err (fault.NoQuorum j n)) h refl (still_goes _ _ new h) refl (λ i u x. inl x)
       (carry_others j u word _ new g g h has (λ i t x. x))
       (refl, lack_cause who j u n old new (done_ok law who old new j u word r (answers.NoQuorum n) legal h own).event)
 
@@ -356,10 +352,10 @@ module _ (law : Law) (words : ℕ → Bool) (who : ℕ) (old : List Event) (k : 
       one_turn (Begin s.id (Append x)) (fabric.Begun t) new (Moves e k.version k.chain Starting k.version k.chain (Appending s t)) h h.event
       (ap (λ (y : Segment). y.id) is, ap (λ (y : Entry). Append y) same, ap (λ (y : Segment). Appending y t) is, refl, refl)
 
-  pub began : (s : Segment) (t : ℕ) (x e : Entry) (new : List Event) → s ≡ last_segment k.chain → x ≡ e → IsTurn law who old (Begin s.id (Append x)) (fabric.Begun t) new → Went law words who old k (at_step e Starting) new k (at_step e (Appending s t)) (Ok None)
+  pub began : (s : Segment) (t : ℕ) (x e : Entry) (new : List Event) → s ≡ last_segment k.chain → x ≡ e → IsTurn law who old (Begin s.id (Append x)) (fabric.Begun t) new → Went law who old k (at_step e Starting) new k (at_step e (Appending s t)) (Ok None)
   began s t x e new is same h =
       let o = begin_ok law who old new s.id (Append x) t h in
-      made (Begin s.id (Append x)) (fabric.Begun t) new k (at_step e Starting) (at_step e (Appending s t)) (Ok None) h tt refl (still_goes _ _ new h) refl (λ i u x. absurd x)
+      made (Begin s.id (Append x)) (fabric.Begun t) new k (at_step e Starting) (at_step e (Appending s t)) (Ok None) h refl (still_goes _ _ new h) refl (λ i u x. absurd x)
       (λ early other y apart. begin_others s.id t (Append x) new h early other y) (
         refl,
         turn_calm law who old _ _ new h tt,
@@ -390,11 +386,11 @@ module _ (law : Law) (words : ℕ → Bool) (who : ℕ) (old : List Event) (k : 
 
   -- The append is carried
 
-  pub append_going : (s : Segment) (t word : ℕ) (e : Entry) (new : List Event) → IsTurn law who old (Carry s.id t word) fabric.Going new → IsTrue (words word) × (word < 2 ^ 64) → Went law words who old k (at_step e (Appending s t)) new k (at_step e (Appending s t)) (Ok None)
-  append_going s t word e new h word_ok =
+  pub append_going : (s : Segment) (t word : ℕ) (e : Entry) (new : List Event) → IsTurn law who old (Carry s.id t word) fabric.Going new → Went law who old k (at_step e (Appending s t)) new k (at_step e (Appending s t)) (Ok None)
+  append_going s t word e new h =
       let g = at_step e (Appending s t) in
       let more = h.others ++ h.own in
-      made (Carry s.id t word) fabric.Going new k g g (Ok None) h word_ok refl (still_goes _ _ new h) refl (λ i u x. inl x)
+      made (Carry s.id t word) fabric.Going new k g g (Ok None) h refl (still_goes _ _ new h) refl (λ i u x. inl x)
       (carry_others s.id t word _ new g g h (refl, refl) (λ i u x. x)) (
         refl,
         turn_calm law who old _ _ new h tt,
@@ -414,10 +410,10 @@ module _ (law : Law) (words : ℕ → Bool) (who : ℕ) (old : List Event) (k : 
         },
       )
 
-  pub append_sealed : (s : Segment) (t word : ℕ) (e : Entry) (new : List Event) → IsTurn law who old (Carry s.id t word) (fabric.Done answers.Sealed) new → IsTrue (words word) × (word < 2 ^ 64) → Went law words who old k (at_step e (Appending s t)) new k (at_step e (Reading s)) (Ok None)
-  append_sealed s t word e new h word_ok =
+  pub append_sealed : (s : Segment) (t word : ℕ) (e : Entry) (new : List Event) → IsTurn law who old (Carry s.id t word) (fabric.Done answers.Sealed) new → Went law who old k (at_step e (Appending s t)) new k (at_step e (Reading s)) (Ok None)
+  append_sealed s t word e new h =
       let g = at_step e (Appending s t) in
-      made (Carry s.id t word) (fabric.Done answers.Sealed) new k g (at_step e (Reading s)) (Ok None) h word_ok refl (still_goes _ _ new h) refl (λ i u x. inr (subst (λ j. ((state_of new).cells j).told.ops u ≡ None) x.0 (subst (λ n. ((state_of new).cells s.id).told.ops n ≡ None) x.1 (answered_closed s.id t word answers.Sealed new h))))
+      made (Carry s.id t word) (fabric.Done answers.Sealed) new k g (at_step e (Reading s)) (Ok None) h refl (still_goes _ _ new h) refl (λ i u x. inr (subst (λ j. ((state_of new).cells j).told.ops u ≡ None) x.0 (subst (λ n. ((state_of new).cells s.id).told.ops n ≡ None) x.1 (answered_closed s.id t word answers.Sealed new h))))
       (carry_others s.id t word _ new g (at_step e (Reading s)) h (refl, refl) (λ i u x. absurd x)) (
         refl,
         turn_calm law who old _ _ new h tt,
@@ -483,13 +479,13 @@ module _ (law : Law) (words : ℕ → Bool) (who : ℕ) (old : List Event) (k : 
         fits = omega (arith, new_ok.rooms i s.start at_new, new_ok.ids i s.start at_new, new_ok.shelf, legal.most, new_cell.reach, new_cell.firm, new_cell.room, reach_is, low);
       }
 
-  pub append_placed : (s : Segment) (t word p n : ℕ) (e : Entry) (early new : List Event) → IsTurn law who old (Carry s.id t word) (fabric.Done (answers.Placed p)) new → IsTrue (words word) × (word < 2 ^ 64) → IsGoing law.may who early old k.chain (at_step e (Appending s t)) → n ≡ max k.tail (s.start + p + 1)
-      → Went law words who old k (at_step e (Appending s t)) new (record { version = k.version; chain = k.chain; tail = n }) (at_step e (Appending s t)) (Ok (Some (s.start + p)))
-  append_placed s t word p n e early new h word_ok x max_is =
+  pub append_placed : (s : Segment) (t word p n : ℕ) (e : Entry) (early new : List Event) → IsTurn law who old (Carry s.id t word) (fabric.Done (answers.Placed p)) new → IsGoing law.may who early old k.chain (at_step e (Appending s t)) → n ≡ max k.tail (s.start + p + 1)
+      → Went law who old k (at_step e (Appending s t)) new (record { version = k.version; chain = k.chain; tail = n }) (at_step e (Appending s t)) (Ok (Some (s.start + p)))
+  append_placed s t word p n e early new h x max_is =
       let g = at_step e (Appending s t) in
       let z = placing s t word p e early new h x in
       let still = still_goes _ _ new h in
-      made (Carry s.id t word) (fabric.Done (answers.Placed p)) new (record { version = k.version; chain = k.chain; tail = n }) g g (Ok (Some (s.start + p))) h word_ok refl
+      made (Carry s.id t word) (fabric.Done (answers.Placed p)) new (record { version = k.version; chain = k.chain; tail = n }) g g (Ok (Some (s.start + p))) h refl
       (record { given = still.given; reached = omega (arith, still.reached, z.goes_by.reached, max_is) }) refl (λ i u x. inl x)
       (carry_others s.id t word _ new g g h (refl, refl) (λ i u y. y)) (
         max_is,
@@ -502,16 +498,15 @@ module _ (law : Law) (words : ℕ → Bool) (who : ℕ) (old : List Event) (k : 
 
   -- A carry without memory
 
-  pub gave_up : (j u word : ℕ) (mid new : List Event) (g : Going) (answer : FabricAnswer) (step : Step) → IsTurn law who old (Carry j u word) fabric.Memory mid → IsTrue (words word) × (word < 2 ^ 64) → IsDropping who old j u → HasTicket g.step j u → IsTurn law who mid (Forget j u) answer new → Forgets j u answer step
-      → Went law words who old k g new k (at_step g.entry step) (Err fault.Memory)
-  gave_up j u word mid new g answer step h word_ok drop has h' f =
+  pub gave_up : (j u word : ℕ) (mid new : List Event) (g : Going) (answer : FabricAnswer) (step : Step) → IsTurn law who old (Carry j u word) fabric.Memory mid → IsDropping who old j u → HasTicket g.step j u → IsTurn law who mid (Forget j u) answer new → Forgets j u answer step
+      → Went law who old k g new k (at_step g.entry step) (Err fault.Memory)
+  gave_up j u word mid new g answer step h drop has h' f =
       let first = turn_later law who old _ _ mid h in
       let second = turn_later law who mid _ _ new h' in
       let later = later_trans law old mid new first second in
       record {
         later = later;
         goes_by = goes_later law old new k.version k.tail k.chain later goes;
-        says = says_then words who who old mid new refl (turn_says law who old words _ _ mid h word_ok) (turn_says law who mid words _ _ new h' tt);
         unsealed = seals_trans who old mid new (turn_none law who old _ _ mid h refl) (turn_none law who mid _ _ new h' refl);
         entry = refl;
         left = λ i t mine. forgot_all g.step step j u i t new has mine (forgot_left law who mid h.legal j u answer step new h' f);
@@ -535,10 +530,10 @@ module _ (law : Law) (words : ℕ → Bool) (who : ℕ) (old : List Event) (k : 
 
   -- The ticket that want of memory left
 
-  pub undropped : (j u : ℕ) (e : Entry) (answer : FabricAnswer) (step : Step) (new : List Event) → IsTurn law who old (Forget j u) answer new → Forgets j u answer step → Went law words who old k (at_step e (Dropping j u)) new k (at_step e (Dropping j u)) (Err fault.Memory)
+  pub undropped : (j u : ℕ) (e : Entry) (answer : FabricAnswer) (step : Step) (new : List Event) → IsTurn law who old (Forget j u) answer new → Forgets j u answer step → Went law who old k (at_step e (Dropping j u)) new k (at_step e (Dropping j u)) (Err fault.Memory)
   undropped j u e answer step new h f =
       let g = at_step e (Dropping j u) in
-      made (Forget j u) answer new k g g (Err fault.Memory) h tt refl (still_goes _ _ new h) refl (λ i u x. inl x)
+      made (Forget j u) answer new k g g (Err fault.Memory) h refl (still_goes _ _ new h) refl (λ i u x. inl x)
       (forget_others j u answer new g g h (refl, refl) (λ i t x. x)) (
         refl,
         turn_calm law who old _ _ new h (forgets_calm j u answer step f),
@@ -583,13 +578,12 @@ module _ (law : Law) (words : ℕ → Bool) (who : ℕ) (old : List Event) (k : 
   dropped_outcome j u e answer mid new k' g' (Err (fault.Full i)) h f o = (o.0, cause_since who (fault.Full i) old mid new (h.others ++ h.own) (turn_is law who old _ _ mid h) o.1)
   dropped_outcome j u e answer mid new k' g' (Err fault.Meta) h f o = (o.0, cause_since who fault.Meta old mid new (h.others ++ h.own) (turn_is law who old _ _ mid h) o.1)
 
-  pub dropped : (j u : ℕ) (e : Entry) (answer : FabricAnswer) (mid new : List Event) (k' : Known) (g' : Going) (r : Result (Option ℕ) Fault) → IsTurn law who old (Forget j u) answer mid → Forgets j u answer Starting → IsDropping who old j u → Went law words who mid k (at_step e Starting) new k' g' r → Went law words who old k (at_step e (Dropping j u)) new k' g' r
+  pub dropped : (j u : ℕ) (e : Entry) (answer : FabricAnswer) (mid new : List Event) (k' : Known) (g' : Going) (r : Result (Option ℕ) Fault) → IsTurn law who old (Forget j u) answer mid → Forgets j u answer Starting → IsDropping who old j u → Went law who mid k (at_step e Starting) new k' g' r → Went law who old k (at_step e (Dropping j u)) new k' g' r
   dropped j u e answer mid new k' g' r h f drop w =
       let g = at_step e (Dropping j u) in
       record {
         later = later_trans law old mid new (turn_later law who old _ _ mid h) w.later;
         goes_by = w.goes_by;
-        says = says_then words who who old mid new refl (turn_says law who old words _ _ mid h tt) w.says;
         unsealed = seals_trans who old mid new (turn_none law who old _ _ mid h refl) w.unsealed;
         entry = w.entry;
         left = λ i t mine.
@@ -616,11 +610,11 @@ module _ (law : Law) (words : ℕ → Bool) (who : ℕ) (old : List Event) (k : 
       let still = still_goes _ _ new h in
       omega (arith, ((sound law new h.legal).olds k.version k.chain still.given).last, ap (λ (x : Chain). (last_of_segments x.segments).id) l.chain_is)
 
-  pub looked : (s : Segment) (v : ℕ) (c : Chain) (e : Entry) (new : List Event) → IsTurn law who old ReadChain (fabric.At v c) new → Went law words who old k (at_step e (Reading s)) new (record { version = v; chain = c; tail = k.tail }) (at_step e (Asking s)) (Ok None)
+  pub looked : (s : Segment) (v : ℕ) (c : Chain) (e : Entry) (new : List Event) → IsTurn law who old ReadChain (fabric.At v c) new → Went law who old k (at_step e (Reading s)) new (record { version = v; chain = c; tail = k.tail }) (at_step e (Asking s)) (Ok None)
   looked s v c e new h =
       let g = at_step e (Reading s) in
       let up = looked_up v c new h in
-      made ReadChain (fabric.At v c) new (record { version = v; chain = c; tail = k.tail }) g (at_step e (Asking s)) (Ok None) h tt refl
+      made ReadChain (fabric.At v c) new (record { version = v; chain = c; tail = k.tail }) g (at_step e (Asking s)) (Ok None) h refl
       (goes_now law who k.version k.tail v k.chain c old new legal (turn_later law who old _ _ new h) goes (look_ok law who old new v c h)) refl (λ i u x. absurd x)
       (free_others ReadChain _ new c g (at_step e (Asking s)) h (λ i t. tt) up (λ i t x. x)) (
         refl,
@@ -631,11 +625,11 @@ module _ (law : Law) (words : ℕ → Bool) (who : ℕ) (old : List Event) (k : 
             record { allowed = y.allowed; spelled = y.spelled; first = y.first; at = y.at; reached = y.reached },
       )
 
-  pub asked : (s : Segment) (t : ℕ) (e : Entry) (new : List Event) → IsTurn law who old (Begin s.id Tail) (fabric.Begun t) new → Went law words who old k (at_step e (Asking s)) new k (at_step e (Finding s t)) (Ok None)
+  pub asked : (s : Segment) (t : ℕ) (e : Entry) (new : List Event) → IsTurn law who old (Begin s.id Tail) (fabric.Begun t) new → Went law who old k (at_step e (Asking s)) new k (at_step e (Finding s t)) (Ok None)
   asked s t e new h =
       let o = begin_ok law who old new s.id Tail t h in
       let begin_legal = legal_front law (old ++ o.first.others) (o.first.event ∷ o.first.rest) (subst (IsLegal law) o.first.seen h.legal) in
-      made (Begin s.id Tail) (fabric.Begun t) new k (at_step e (Asking s)) (at_step e (Finding s t)) (Ok None) h tt refl (still_goes _ _ new h) refl (λ i u x. absurd x)
+      made (Begin s.id Tail) (fabric.Begun t) new k (at_step e (Asking s)) (at_step e (Finding s t)) (Ok None) h refl (still_goes _ _ new h) refl (λ i u x. absurd x)
       (λ early other y apart. begin_others s.id t Tail new h early other y) (
         refl,
         turn_calm law who old _ _ new h tt,
@@ -655,10 +649,10 @@ module _ (law : Law) (words : ℕ → Bool) (who : ℕ) (old : List Event) (k : 
         },
       )
 
-  pub find_going : (s : Segment) (t word : ℕ) (e : Entry) (new : List Event) → IsTurn law who old (Carry s.id t word) fabric.Going new → IsTrue (words word) × (word < 2 ^ 64) → Went law words who old k (at_step e (Finding s t)) new k (at_step e (Finding s t)) (Ok None)
-  find_going s t word e new h word_ok =
+  pub find_going : (s : Segment) (t word : ℕ) (e : Entry) (new : List Event) → IsTurn law who old (Carry s.id t word) fabric.Going new → Went law who old k (at_step e (Finding s t)) new k (at_step e (Finding s t)) (Ok None)
+  find_going s t word e new h =
       let g = at_step e (Finding s t) in
-      made (Carry s.id t word) fabric.Going new k g g (Ok None) h word_ok refl (still_goes _ _ new h) refl (λ i u x. inl x)
+      made (Carry s.id t word) fabric.Going new k g g (Ok None) h refl (still_goes _ _ new h) refl (λ i u x. inl x)
       (carry_others s.id t word _ new g g h (refl, refl) (λ i u x. x)) (
         refl,
         turn_calm law who old _ _ new h tt,
@@ -678,10 +672,10 @@ module _ (law : Law) (words : ℕ → Bool) (who : ℕ) (old : List Event) (k : 
         },
       )
 
-  pub find_ended : (s : Segment) (t word n : ℕ) (e : Entry) (new : List Event) → IsTurn law who old (Carry s.id t word) (fabric.Done (answers.SealedTail n)) new → IsTrue (words word) × (word < 2 ^ 64) → Went law words who old k (at_step e (Finding s t)) new k (at_step e (Closing s n)) (Ok None)
-  find_ended s t word n e new h word_ok =
+  pub find_ended : (s : Segment) (t word n : ℕ) (e : Entry) (new : List Event) → IsTurn law who old (Carry s.id t word) (fabric.Done (answers.SealedTail n)) new → Went law who old k (at_step e (Finding s t)) new k (at_step e (Closing s n)) (Ok None)
+  find_ended s t word n e new h =
       let g = at_step e (Finding s t) in
-      made (Carry s.id t word) (fabric.Done (answers.SealedTail n)) new k g (at_step e (Closing s n)) (Ok None) h word_ok refl (still_goes _ _ new h) refl (λ i u x. inr (subst (λ j. ((state_of new).cells j).told.ops u ≡ None) x.0 (subst (λ m. ((state_of new).cells s.id).told.ops m ≡ None) x.1 (answered_closed s.id t word (answers.SealedTail n) new h))))
+      made (Carry s.id t word) (fabric.Done (answers.SealedTail n)) new k g (at_step e (Closing s n)) (Ok None) h refl (still_goes _ _ new h) refl (λ i u x. inr (subst (λ j. ((state_of new).cells j).told.ops u ≡ None) x.0 (subst (λ m. ((state_of new).cells s.id).told.ops m ≡ None) x.1 (answered_closed s.id t word (answers.SealedTail n) new h))))
       (carry_others s.id t word _ new g (at_step e (Closing s n)) h (refl, refl) (λ i u x. absurd x)) (
         refl,
         turn_calm law who old _ _ new h tt,
@@ -701,10 +695,10 @@ module _ (law : Law) (words : ℕ → Bool) (who : ℕ) (old : List Event) (k : 
       let done = done_ok law who old new s.id t word x.at.running a legal h x.at.own in
       late_tail ((state_of done.moment).cells s.id).told x.at.running a x.at.late (subst (λ (op : Op). MayAnswer ((state_of done.moment).cells s.id).told x.at.running op a) x.at.asks done.may) ends lack
 
-  pub wrote : (s : Segment) (n m : ℕ) (d : Chain) (e : Entry) (new : List Event) → d ≡ extended k.chain n → IsTurn law who old (WriteChain k.version d) (fabric.Written m) new → Went law words who old k (at_step e (Closing s n)) new k (at_step e (Reading s)) (Ok None)
+  pub wrote : (s : Segment) (n m : ℕ) (d : Chain) (e : Entry) (new : List Event) → d ≡ extended k.chain n → IsTurn law who old (WriteChain k.version d) (fabric.Written m) new → Went law who old k (at_step e (Closing s n)) new k (at_step e (Reading s)) (Ok None)
   wrote s n m d e new is h =
       let g = at_step e (Closing s n) in
-      made (WriteChain k.version d) (fabric.Written m) new k g (at_step e (Reading s)) (Ok None) h tt refl (still_goes _ _ new h) refl (λ i u x. absurd x)
+      made (WriteChain k.version d) (fabric.Written m) new k g (at_step e (Reading s)) (Ok None) h refl (still_goes _ _ new h) refl (λ i u x. absurd x)
       (free_others (WriteChain k.version d) _ new k.chain g (at_step e (Reading s)) h (λ i t. tt) (omega arith) (λ i t x. x)) (
         refl,
         turn_calm law who old _ _ new h tt,
@@ -715,12 +709,12 @@ module _ (law : Law) (words : ℕ → Bool) (who : ℕ) (old : List Event) (k : 
       )
 
   pub lost : (s : Segment) (n m : ℕ) (d c : Chain) (e : Entry) (new : List Event) → d ≡ extended k.chain n → IsTurn law who old (WriteChain k.version d) (fabric.Conflict m c) new
-      → Went law words who old k (at_step e (Closing s n)) new (record { version = m; chain = c; tail = k.tail }) (at_step e (Closing s n)) (Ok None)
+      → Went law who old k (at_step e (Closing s n)) new (record { version = m; chain = c; tail = k.tail }) (at_step e (Closing s n)) (Ok None)
   lost s n m d c e new is h =
       let g = at_step e (Closing s n) in
       let x = lost_ok law who old k.version k.chain d goes.given m c new h in
       let up = x.last in
-      made (WriteChain k.version d) (fabric.Conflict m c) new (record { version = m; chain = c; tail = k.tail }) g g (Ok None) h tt refl
+      made (WriteChain k.version d) (fabric.Conflict m c) new (record { version = m; chain = c; tail = k.tail }) g g (Ok None) h refl
       (goes_onto law k.version k.tail m k.chain c old new legal (turn_later law who old _ _ new h) goes x.given up) refl (λ i u x. absurd x)
       (free_others (WriteChain k.version d) _ new c g g h (λ i t. tt) up (λ i t x. x)) (
         refl,

@@ -7,7 +7,7 @@ use Rattle.legal_journal.specs.declared.events.Event.{Event}
 use Rattle.legal_journal.specs.Journal.{State, state_of, IsLegal}
 
 -- by whom its events are, the journal as far as it was seen, the greatest position + 1 or tail that it was answered, and
--- the chain that it goes by, with its version; and the words that its chooser may give
+-- the chain that it goes by, with its version; and where its chooser stands, on which the words that it gives depend
 pub record LogView : Type 0 where
   pub who : ℕ
   pub seen : List Event

@@ -26,7 +26,6 @@ use Rattle.virtual_log.specs.declared.underway.Step.TheVariants.{Starting, Appen
 use Rattle.virtual_log.specs.declared.underway.Going.{Going}
 use Rattle.virtual_log.specs.Turning.{FirstTurn, IsAbove, Later}
 use Rattle.virtual_log.specs.Causes.{HasCause, CalmSince}
-use Rattle.virtual_log.specs.Saying.{SaysOnly}
 use Rattle.virtual_log.specs.Sealing.{SealsNone}
 use Rattle.virtual_log.specs.Holding.{Holds}
 use Rattle.virtual_log.specs.Log.{GoesBy}
@@ -215,10 +214,9 @@ Outcome may who old k g new k' g' (Err Memory) =
 Outcome may who old k g new k' g' (Err fault) = (k'.tail ≡ k.tail) × HasCause who old fault new
 
 -- what one turn owes, from what was seen, what is known of the log, and the append, to those after it
-pub record Went (law : Law) (words : ℕ → Bool) (who : ℕ) (old : List Event) (k : Known) (g : Going) (new : List Event) (k' : Known) (g' : Going) (answer : Result (Option ℕ) Fault) : Type 0 where
+pub record Went (law : Law) (who : ℕ) (old : List Event) (k : Known) (g : Going) (new : List Event) (k' : Known) (g' : Going) (answer : Result (Option ℕ) Fault) : Type 0 where
   pub later : Later law old new
   pub goes_by : GoesBy (state_of new) k'.version k'.chain k'.tail
-  pub says : SaysOnly words who old new
   pub unsealed : SealsNone who old new
   pub entry : g'.entry ≡ g.entry
   pub left : LeavesNone g.step new g'.step

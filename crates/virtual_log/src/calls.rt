@@ -11,7 +11,7 @@ ghost use Rattle.virtual_log.specs.Sealing.{SealsNone};
 ghost use Rattle.virtual_log.specs.Log.{GoesBy};
 ghost use Rattle.virtual_log.specs.Next.{IsNext};
 ghost use Rattle.virtual_log.specs.Holding.{Holds, Reads};
-ghost use Rattle.virtual_log.specs.Saying.{SaysOnly};
+ghost use Rattle.virtual_log.specs.Saying.{DrawsOwn};
 ghost use Rattle.virtual_log.specs.Operating.{ClosesOwn};
 ghost use Rattle.virtual_log.specs.Attempts.{AppendsOnce, AppendsAtMostOnce};
 
@@ -58,8 +58,7 @@ pub fn append_on<T: Turns, C: Chooser>(
     ensures above { IfOk result (λ pos. IsAbove (T.who turns.old) (T.seen turns.old) pos (T.seen turns.new)) }
     ensures known { IfOk result (λ pos. known.new.tail ≡ max known.old.tail (pos + 1)) }
     ensures unknown { OnErr result (known.new.tail ≡ known.old.tail) }
-    ensures words { SaysOnly (C.may chooser.old) (T.who turns.old) (T.seen turns.old) (T.seen turns.new) }
-    ensures same { C.may chooser.new ≡ C.may chooser.old }
+    ensures draws { DrawsOwn C.gives (T.who turns.old) (C.at chooser.old) (T.seen turns.old) result (C.at chooser.new) (T.seen turns.new) }
     ensures err { IfErr result (λ fault. HasCause (T.who turns.old) (T.seen turns.old) fault (T.seen turns.new)) }
     ensures unsealed { SealsNone (T.who turns.old) (T.seen turns.old) (T.seen turns.new) }
     ensures once { OnOk result (AppendsOnce (T.who turns.old) entry.now (T.seen turns.old) (T.seen turns.new)) }
@@ -100,8 +99,7 @@ pub fn tail_on<T: Turns, C: Chooser>(
     ensures exact { IfOk result (λ tail. OnlyOwn (T.who turns.old) (T.seen turns.old) (T.seen turns.new) → tail_of (state_of (T.seen turns.new)) ≤ tail) }
     ensures known { IfOk result (λ tail. known.new.tail ≡ max known.old.tail tail) }
     ensures unknown { OnErr result (known.new.tail ≡ known.old.tail) }
-    ensures words { SaysOnly (C.may chooser.old) (T.who turns.old) (T.seen turns.old) (T.seen turns.new) }
-    ensures same { C.may chooser.new ≡ C.may chooser.old }
+    ensures draws { DrawsOwn C.gives (T.who turns.old) (C.at chooser.old) (T.seen turns.old) result (C.at chooser.new) (T.seen turns.new) }
     ensures err { IfErr result (λ fault. HasCause (T.who turns.old) (T.seen turns.old) fault (T.seen turns.new)) }
     ensures unsealed { SealsNone (T.who turns.old) (T.seen turns.old) (T.seen turns.new) }
     ensures calm { OnOk result (CalmSince (T.who turns.old) (T.seen turns.old) (T.seen turns.new)) }
@@ -149,8 +147,7 @@ fn read_at<T: Turns, C: Chooser>(
     ensures held { IfOk result (λ o. IfSome o (λ e. Holds (T.seen turns.new) pos e)) }
     ensures cut { IfOk result (λ o. IfNone o (pos < trim_of (state_of (T.seen turns.new)))) }
     ensures quiet { OnOk result (OnlyOwn (T.who turns.old) (T.seen turns.old) (T.seen turns.new) → tail_of (state_of (T.seen turns.new)) ≡ tail_of (state_of (T.seen turns.old))) }
-    ensures words { SaysOnly (C.may chooser.old) (T.who turns.old) (T.seen turns.old) (T.seen turns.new) }
-    ensures same { C.may chooser.new ≡ C.may chooser.old }
+    ensures draws { DrawsOwn C.gives (T.who turns.old) (C.at chooser.old) (T.seen turns.old) result (C.at chooser.new) (T.seen turns.new) }
     ensures err { IfErr result (λ fault. HasCause (T.who turns.old) (T.seen turns.old) fault (T.seen turns.new)) }
     ensures unsealed { SealsNone (T.who turns.old) (T.seen turns.old) (T.seen turns.new) }
     ensures calm { OnOk result (CalmSince (T.who turns.old) (T.seen turns.old) (T.seen turns.new)) }
@@ -189,8 +186,7 @@ pub fn read_from<T: Turns, C: Chooser>(
     ensures reads { IfOk result (Reads Holds (T.seen turns.new) min m) }
     ensures quiet { OnOk result (trim_of (state_of (T.seen turns.new)) ≤ min → OnlyOwn (T.who turns.old) (T.seen turns.old) (T.seen turns.new)
         → tail_of (state_of (T.seen turns.new)) ≡ tail_of (state_of (T.seen turns.old))) }
-    ensures words { SaysOnly (C.may chooser.old) (T.who turns.old) (T.seen turns.old) (T.seen turns.new) }
-    ensures same { C.may chooser.new ≡ C.may chooser.old }
+    ensures draws { DrawsOwn C.gives (T.who turns.old) (C.at chooser.old) (T.seen turns.old) result (C.at chooser.new) (T.seen turns.new) }
     ensures err { IfErr result (λ fault. HasCause (T.who turns.old) (T.seen turns.old) fault (T.seen turns.new)) }
     ensures unsealed { SealsNone (T.who turns.old) (T.seen turns.old) (T.seen turns.new) }
     ensures calm { OnOk result (CalmSince (T.who turns.old) (T.seen turns.old) (T.seen turns.new)) }

@@ -9,7 +9,7 @@ ghost use Rattle.virtual_log.specs.declared.fault.Fault.TheVariants.{Memory};
 ghost use Rattle.virtual_log.specs.Log.{GoesBy};
 ghost use Rattle.virtual_log.specs.Extending.{Closes, IsExtension};
 ghost use Rattle.virtual_log.specs.Sealing.{SealsNone, SealsLast};
-ghost use Rattle.virtual_log.specs.Saying.{SaysOnly, SaysNone};
+ghost use Rattle.virtual_log.specs.Saying.{DrawsOwn, SaysNone};
 ghost use Rattle.virtual_log.specs.Operating.{Operates, ClosesOwn};
 
 use crate::calls::Known;
@@ -95,8 +95,7 @@ pub fn extend_on<T: Turns, C: Chooser>(
     ensures extension { IfOk result (IsExtension (length T.Law.law.shelf) (T.who turns.old) (T.seen turns.old) known.old.tail known.new.tail known.new.version (T.seen turns.new)) }
     ensures seals { SealsLast (T.who turns.old) (T.seen turns.old) (T.seen turns.new) }
     ensures unknown { OnErr result (known.new.tail ≡ known.old.tail) }
-    ensures words { SaysOnly (C.may chooser.old) (T.who turns.old) (T.seen turns.old) (T.seen turns.new) }
-    ensures same { C.may chooser.new ≡ C.may chooser.old }
+    ensures draws { DrawsOwn C.gives (T.who turns.old) (C.at chooser.old) (T.seen turns.old) result (C.at chooser.new) (T.seen turns.new) }
     ensures err { IfErr result (λ fault. HasCause (T.who turns.old) (T.seen turns.old) fault (T.seen turns.new)) }
     ensures calm { OnOk result (CalmSince (T.who turns.old) (T.seen turns.old) (T.seen turns.new)) }
     ensures memory { IfErr result (λ fault. fault ≡ Memory → CalmSince (T.who turns.old) (T.seen turns.old) (T.seen turns.new)) }

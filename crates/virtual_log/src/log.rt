@@ -12,7 +12,7 @@ ghost use Rattle.virtual_log.specs.Holding.{Holds, Reads};
 ghost use Rattle.virtual_log.specs.Log.{LogView, GoesBy};
 ghost use Rattle.virtual_log.specs.Extending.{IsExtension};
 ghost use Rattle.virtual_log.specs.Sealing.{SealsNone, SealsLast};
-ghost use Rattle.virtual_log.specs.Saying.{SaysOnly, words_of, is_among};
+ghost use Rattle.virtual_log.specs.Saying.{DrawsOwn, SaysNone};
 ghost use Rattle.virtual_log.specs.Operating.{Operates, ClosesOwn};
 ghost use Rattle.virtual_log.specs.Attempts.{AppendsOnce, AppendsAtMostOnce};
 ghost use Rattle.virtual_log.specs.Truncating.{IsTruncated, IsPrefixTrimmed, Spares, TrimsLooked};
@@ -50,13 +50,12 @@ pub struct Parts<T, C> {
 
 impl<T: Turns, C: Chooser> Model for VirtualLog<T, C> {
     ghost use Rattle.virtual_log.specs.Log.{LogView, LogOk};
-    ghost use Rattle.virtual_log.specs.Saying.{words_of};
 
     ghost Value = { LogView };
 
-    ghost view = { λ l. record { who = T.who l.turns; seen = T.seen l.turns; known = l.known.tail; version = l.known.version; chain = l.known.chain; words = words_of (C.may l.chooser) } };
+    ghost view = { λ l. record { who = T.who l.turns; seen = T.seen l.turns; known = l.known.tail; version = l.known.version; chain = l.known.chain; words = C.at l.chooser } };
 
-    ghost invariant = { λ l. LogOk T.Law.law (record { who = T.who l.turns; seen = T.seen l.turns; known = l.known.tail; version = l.known.version; chain = l.known.chain; words = words_of (C.may l.chooser) }) l.shelf_len };
+    ghost invariant = { λ l. LogOk T.Law.law (record { who = T.who l.turns; seen = T.seen l.turns; known = l.known.tail; version = l.known.version; chain = l.known.chain; words = C.at l.chooser }) l.shelf_len };
 }
 
 impl<T: Turns, C: Chooser> VirtualLog<T, C> {
@@ -65,7 +64,7 @@ impl<T: Turns, C: Chooser> VirtualLog<T, C> {
     pub fn new(alloc: Global, turns: T, chooser: C, shelf_len: u32) -> Result<Self, Parts<T, C>>
         requires legal { IsLegal T.Law.law (T.seen turns) }
         requires shelf { shelf_len ≡ length T.Law.law.shelf }
-        ensures ok { IfOk result (λ l. l ≡ record { who = T.who turns; seen = T.seen turns; known = 0; version = 1; chain = first_chain; words = words_of (C.may chooser) }) }
+        ensures ok { IfOk result (λ l. l ≡ record { who = T.who turns; seen = T.seen turns; known = 0; version = 1; chain = first_chain; words = C.at chooser }) }
         ensures err { IfErr result (λ p. (p.turns ≡ turns) × (p.chooser ≡ chooser)) }
     {
         let Ok(chain) = first_chain(alloc) else {
@@ -89,7 +88,7 @@ impl<T: Turns, C: Chooser> VirtualLog<T, C> {
     pub fn into_parts(self) -> Parts<T, C>
         ensures who { T.who result.turns ≡ self.who }
         ensures seen { T.seen result.turns ≡ self.seen }
-        ensures words { words_of (C.may result.chooser) ≡ self.words }
+        ensures words { C.at result.chooser ≡ self.words }
     {
         let VirtualLog {
             alloc: _,
@@ -136,7 +135,6 @@ impl<T: Turns, C: Chooser> VirtualLog<T, C> {
     /// chain go on behind it, and appends again.
     ///
     /// Cost: one begin and its carries; after a replacement a few events more.
-    #[tactic(auto, using(crate::proofs::Saying::says_among))]
     pub fn append(&mut self, entry: &Entry) -> Result<u64, Fault>
         requires may { T.Law.law.may self.old.who entry.now }
         requires spelled { IsSpellable entry.now }
@@ -169,9 +167,9 @@ impl<T: Turns, C: Chooser> VirtualLog<T, C> {
         ensures memory { IfErr result (λ fault. fault ≡ Memory → CalmSince self.old.who self.old.seen self.new.seen) }
         ensures unknown { OnErr result (self.new.known ≡ self.old.known) }
 
-        // Each word with which it carried is one that the chooser may give, and those are the same after it.
-        ensures words { SaysOnly (is_among self.old.words) self.old.who self.old.seen self.new.seen }
-        ensures same { self.new.words ≡ self.old.words }
+        // The words with which it carried are those that the chooser gave, in that order, and it gave no other. Want of
+        // memory may leave the last one: a carry for which memory is wanting is no event.
+        ensures draws { DrawsOwn C.gives self.old.who self.old.words self.old.seen result self.new.words self.new.seen }
 
         // Each own carry and closing is of an operation that this call began, one after another, and none of them is left
         // open. Want of memory may leave the last one: a carry and a closing for which memory is wanting are no events.
@@ -190,7 +188,6 @@ impl<T: Turns, C: Chooser> VirtualLog<T, C> {
     }
 
     /// A tail of the log.
-    #[tactic(auto, using(crate::proofs::Saying::says_among))]
     pub fn check_tail(&mut self) -> Result<u64, Fault>
         ensures later { Later T.Law.law self.old.seen self.new.seen }
         ensures who { self.new.who ≡ self.old.who }
@@ -210,8 +207,7 @@ impl<T: Turns, C: Chooser> VirtualLog<T, C> {
         ensures exact { IfOk result (λ tail. OnlyOwn self.old.who self.old.seen self.new.seen → tail_of (state_of self.new.seen) ≤ tail) }
         ensures err { IfErr result (λ fault. HasCause self.old.who self.old.seen fault self.new.seen) }
         ensures unsealed { SealsNone self.old.who self.old.seen self.new.seen }
-        ensures words { SaysOnly (is_among self.old.words) self.old.who self.old.seen self.new.seen }
-        ensures same { self.new.words ≡ self.old.words }
+        ensures draws { DrawsOwn C.gives self.old.who self.old.words self.old.seen result self.new.words self.new.seen }
         ensures calm { OnOk result (CalmSince self.old.who self.old.seen self.new.seen) }
         ensures memory { IfErr result (λ fault. fault ≡ Memory → CalmSince self.old.who self.old.seen self.new.seen) }
         ensures unknown { OnErr result (self.new.known ≡ self.old.known) }
@@ -235,7 +231,6 @@ impl<T: Turns, C: Chooser> VirtualLog<T, C> {
     ///
     /// Cost: a read of the chain, a seal, a tail and a write. A write is tried again where others raised
     /// the trim meanwhile.
-    #[tactic(auto, using(crate::proofs::Saying::says_among))]
     pub fn extend(&mut self) -> Result<Extension, Fault>
         requires right { T.Law.seals self.old.who }
         ensures later { Later T.Law.law self.old.seen self.new.seen }
@@ -250,8 +245,7 @@ impl<T: Turns, C: Chooser> VirtualLog<T, C> {
         // Whatever comes of it, it begins no Seal, or one of the last loglet of that chain.
         ensures seals { SealsLast self.old.who self.old.seen self.new.seen }
         ensures err { IfErr result (λ fault. HasCause self.old.who self.old.seen fault self.new.seen) }
-        ensures words { SaysOnly (is_among self.old.words) self.old.who self.old.seen self.new.seen }
-        ensures same { self.new.words ≡ self.old.words }
+        ensures draws { DrawsOwn C.gives self.old.who self.old.words self.old.seen result self.new.words self.new.seen }
         ensures calm { OnOk result (CalmSince self.old.who self.old.seen self.new.seen) }
         ensures memory { IfErr result (λ fault. fault ≡ Memory → CalmSince self.old.who self.old.seen self.new.seen) }
         ensures unknown { OnErr result (self.new.known ≡ self.old.known) }
@@ -275,7 +269,6 @@ impl<T: Turns, C: Chooser> VirtualLog<T, C> {
     ///
     /// Cost: a read of the chain and a write, which is tried again where others changed the chain
     /// meanwhile.
-    #[tactic(auto, using(crate::proofs::Saying::says_among))]
     pub fn truncate(&mut self, n: u64) -> Result<(u64, u64), Fault>
         requires known { n ≤ self.old.known }
         requires free { IsFree (state_of self.old.seen).shown T.Law.law.floor n }
@@ -291,7 +284,7 @@ impl<T: Turns, C: Chooser> VirtualLog<T, C> {
         ensures spares { Spares self.old.who self.old.seen n self.new.seen }
         ensures err { IfErr result (λ fault. HasCause self.old.who self.old.seen fault self.new.seen) }
         ensures unsealed { SealsNone self.old.who self.old.seen self.new.seen }
-        ensures words { SaysOnly (is_among self.old.words) self.old.who self.old.seen self.new.seen }
+        ensures silent { SaysNone self.old.who self.old.seen self.new.seen }
         ensures same { self.new.words ≡ self.old.words }
         ensures calm { OnOk result (CalmSince self.old.who self.old.seen self.new.seen) }
         ensures memory { IfErr result (λ fault. fault ≡ Memory → CalmSince self.old.who self.old.seen self.new.seen) }
@@ -307,7 +300,6 @@ impl<T: Turns, C: Chooser> VirtualLog<T, C> {
     /// below it. Answers the trim.
     ///
     /// Cost: two reads of the chain, a write, and a trim of each loglet whose segment starts below `n`.
-    #[tactic(auto, using(crate::proofs::Saying::says_among))]
     pub fn prefix_trim(&mut self, n: u64) -> Result<u64, Fault>
         requires known { n ≤ self.old.known }
         requires free { IsFree (state_of self.old.seen).shown T.Law.law.floor n }
@@ -324,8 +316,7 @@ impl<T: Turns, C: Chooser> VirtualLog<T, C> {
         ensures stands { IfOk result (λ trim. trim ≡ self.new.chain.trim) }
         ensures err { IfErr result (λ fault. HasCause self.old.who self.old.seen fault self.new.seen) }
         ensures unsealed { SealsNone self.old.who self.old.seen self.new.seen }
-        ensures words { SaysOnly (is_among self.old.words) self.old.who self.old.seen self.new.seen }
-        ensures same { self.new.words ≡ self.old.words }
+        ensures draws { DrawsOwn C.gives self.old.who self.old.words self.old.seen result self.new.words self.new.seen }
         ensures calm { OnOk result (CalmSince self.old.who self.old.seen self.new.seen) }
         ensures memory { IfErr result (λ fault. fault ≡ Memory → CalmSince self.old.who self.old.seen self.new.seen) }
 
@@ -346,7 +337,6 @@ impl<T: Turns, C: Chooser> VirtualLog<T, C> {
     /// known.
     ///
     /// Cost: one read of a loglet; the chain is read where others trimmed past what was known of it.
-    #[tactic(auto, using(crate::proofs::Saying::says_among))]
     pub fn read_next(&mut self, least: u64, most: u64) -> Result<Next, Fault>
         ensures later { Later T.Law.law self.old.seen self.new.seen }
         ensures who { self.new.who ≡ self.old.who }
@@ -364,8 +354,7 @@ impl<T: Turns, C: Chooser> VirtualLog<T, C> {
             → tail_of (state_of self.new.seen) ≡ tail_of (state_of self.old.seen)) }
         ensures err { IfErr result (λ fault. HasCause self.old.who self.old.seen fault self.new.seen) }
         ensures unsealed { SealsNone self.old.who self.old.seen self.new.seen }
-        ensures words { SaysOnly (is_among self.old.words) self.old.who self.old.seen self.new.seen }
-        ensures same { self.new.words ≡ self.old.words }
+        ensures draws { DrawsOwn C.gives self.old.who self.old.words self.old.seen result self.new.words self.new.seen }
         ensures calm { OnOk result (CalmSince self.old.who self.old.seen self.new.seen) }
         ensures memory { IfErr result (λ fault. fault ≡ Memory → CalmSince self.old.who self.old.seen self.new.seen) }
 

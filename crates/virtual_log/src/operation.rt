@@ -9,7 +9,7 @@ ghost use Rattle.virtual_log.specs.declared.fault.Fault.TheVariants.{Memory};
 ghost use Rattle.virtual_log.specs.Tails.{IsFound, IsSealedTail};
 ghost use Rattle.virtual_log.specs.Writing.{WroteNone};
 ghost use Rattle.virtual_log.specs.Sealing.{SealsNone, SealsAt};
-ghost use Rattle.virtual_log.specs.Saying.{SaysOnly};
+ghost use Rattle.virtual_log.specs.Saying.{DrawsOwn};
 ghost use Rattle.virtual_log.specs.Operating.{ClosesOwn};
 ghost use Rattle.virtual_log.specs.Attempts.{AppendsOnce, AppendsNone, AppendsAtMostOnce, Idles};
 
@@ -42,8 +42,7 @@ pub fn append_to<T: Turns, C: Chooser>(
     ensures start { IfOk result (λ o. IfSome o (λ pos. segment.start ≤ pos)) }
     ensures placed { IfOk result (λ o. IfSome o (λ pos. slice_get ((state_of (T.seen turns.new)).cells segment.id).entries (pos - segment.start) ≡ Some entry.now)) }
     ensures reached { IfOk result (λ o. IfSome o (λ pos. pos + 1 ≤ segment.start + ((state_of (T.seen turns.new)).cells segment.id).told.reach)) }
-    ensures words { SaysOnly (C.may chooser.old) (T.who turns.old) (T.seen turns.old) (T.seen turns.new) }
-    ensures same { C.may chooser.new ≡ C.may chooser.old }
+    ensures draws { DrawsOwn C.gives (T.who turns.old) (C.at chooser.old) (T.seen turns.old) result (C.at chooser.new) (T.seen turns.new) }
     ensures err { IfErr result (λ fault. HasCause (T.who turns.old) (T.seen turns.old) fault (T.seen turns.new)) }
     ensures unsealed { SealsNone (T.who turns.old) (T.seen turns.old) (T.seen turns.new) }
     ensures once { IfOk result (λ o. IfSome o (λ pos. AppendsOnce (T.who turns.old) entry.now (T.seen turns.old) (T.seen turns.new))) }
@@ -92,8 +91,7 @@ pub fn find_tail<T: Turns, C: Chooser>(
     ensures quiet { IfOk result (λ x. WroteNone (T.who turns.old) (T.seen turns.old) (T.seen turns.new)) }
     ensures unsealed { SealsNone (T.who turns.old) (T.seen turns.old) (T.seen turns.new) }
     ensures idle { Idles (T.who turns.old) (T.seen turns.old) (T.seen turns.new) }
-    ensures words { SaysOnly (C.may chooser.old) (T.who turns.old) (T.seen turns.old) (T.seen turns.new) }
-    ensures same { C.may chooser.new ≡ C.may chooser.old }
+    ensures draws { DrawsOwn C.gives (T.who turns.old) (C.at chooser.old) (T.seen turns.old) result (C.at chooser.new) (T.seen turns.new) }
     ensures err { IfErr result (λ fault. HasCause (T.who turns.old) (T.seen turns.old) fault (T.seen turns.new)) }
     ensures calm { OnOk result (CalmSince (T.who turns.old) (T.seen turns.old) (T.seen turns.new)) }
     ensures memory { IfErr result (λ fault. fault ≡ Memory → CalmSince (T.who turns.old) (T.seen turns.old) (T.seen turns.new)) }
@@ -123,8 +121,7 @@ pub fn seal<T: Turns, C: Chooser>(turns: &mut T, chooser: &mut C, id: u32) -> Re
     ensures sealed { OnOk result (((state_of (T.seen turns.new)).cells id).told.sealed ≡ true) }
     ensures quiet { OnOk result (WroteNone (T.who turns.old) (T.seen turns.old) (T.seen turns.new)) }
     ensures seals { SealsAt (T.who turns.old) id (T.seen turns.old) (T.seen turns.new) }
-    ensures words { SaysOnly (C.may chooser.old) (T.who turns.old) (T.seen turns.old) (T.seen turns.new) }
-    ensures same { C.may chooser.new ≡ C.may chooser.old }
+    ensures draws { DrawsOwn C.gives (T.who turns.old) (C.at chooser.old) (T.seen turns.old) result (C.at chooser.new) (T.seen turns.new) }
     ensures err { IfErr result (λ fault. HasCause (T.who turns.old) (T.seen turns.old) fault (T.seen turns.new)) }
     ensures calm { OnOk result (CalmSince (T.who turns.old) (T.seen turns.old) (T.seen turns.new)) }
     ensures memory { IfErr result (λ fault. fault ≡ Memory → CalmSince (T.who turns.old) (T.seen turns.old) (T.seen turns.new)) }

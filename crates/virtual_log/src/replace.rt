@@ -8,7 +8,7 @@ ghost use Rattle.virtual_log.specs.Log.{GoesBy};
 ghost use Rattle.virtual_log.specs.Causes.{HasCause, CalmSince};
 ghost use Rattle.virtual_log.specs.declared.fault.Fault.TheVariants.{Memory};
 ghost use Rattle.virtual_log.specs.Sealing.{SealsNone};
-ghost use Rattle.virtual_log.specs.Saying.{SaysOnly};
+ghost use Rattle.virtual_log.specs.Saying.{DrawsOwn};
 ghost use Rattle.virtual_log.specs.Operating.{ClosesOwn};
 ghost use Rattle.virtual_log.specs.Attempts.{Idles};
 
@@ -50,8 +50,7 @@ fn finish<T: Turns, C: Chooser>(
     ensures later { Later T.Law.law (T.seen turns.old) (T.seen turns.new) }
     ensures who { T.who turns.new ≡ T.who turns.old }
     ensures ok { OnOk result ((last_segment known.old.chain).id < (last_segment (state_of (T.seen turns.new)).register.chain).id) }
-    ensures words { SaysOnly (C.may chooser.old) (T.who turns.old) (T.seen turns.old) (T.seen turns.new) }
-    ensures same { C.may chooser.new ≡ C.may chooser.old }
+    ensures draws { DrawsOwn C.gives (T.who turns.old) (C.at chooser.old) (T.seen turns.old) result (C.at chooser.new) (T.seen turns.new) }
     ensures err { IfErr result (λ fault. HasCause (T.who turns.old) (T.seen turns.old) fault (T.seen turns.new)) }
     ensures unsealed { SealsNone (T.who turns.old) (T.seen turns.old) (T.seen turns.new) }
     ensures idle { Idles (T.who turns.old) (T.seen turns.old) (T.seen turns.new) }
@@ -82,8 +81,7 @@ pub fn chain_behind<T: Turns, C: Chooser>(
     ensures who { T.who turns.new ≡ T.who turns.old }
     ensures given { IfOk result (λ x. (state_of (T.seen turns.new)).register.given x.0 ≡ Some x.1) }
     ensures behind { IfOk result (λ x. segment.id < (last_of_segments x.1.segments).id) }
-    ensures words { SaysOnly (C.may chooser.old) (T.who turns.old) (T.seen turns.old) (T.seen turns.new) }
-    ensures same { C.may chooser.new ≡ C.may chooser.old }
+    ensures draws { DrawsOwn C.gives (T.who turns.old) (C.at chooser.old) (T.seen turns.old) result (C.at chooser.new) (T.seen turns.new) }
     ensures err { IfErr result (λ fault. HasCause (T.who turns.old) (T.seen turns.old) fault (T.seen turns.new)) }
     ensures unsealed { SealsNone (T.who turns.old) (T.seen turns.old) (T.seen turns.new) }
     ensures idle { Idles (T.who turns.old) (T.seen turns.old) (T.seen turns.new) }

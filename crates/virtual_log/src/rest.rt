@@ -24,11 +24,10 @@ pub struct Rested<C: Chooser> {
 
 impl<C: Chooser> Model for Rested<C> {
     ghost use Rattle.virtual_log.specs.Log.{RestedView};
-    ghost use Rattle.virtual_log.specs.Saying.{words_of};
 
     ghost Value = { RestedView };
 
-    ghost view = { λ r. record { known = r.known.tail; version = r.known.version; chain = r.known.chain; shelf_len = r.shelf_len; words = words_of (C.may r.chooser) } };
+    ghost view = { λ r. record { known = r.known.tail; version = r.known.version; chain = r.known.chain; shelf_len = r.shelf_len; words = C.at r.chooser } };
 }
 
 impl<C: Chooser> Rested<C> {

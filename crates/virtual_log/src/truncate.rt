@@ -9,7 +9,7 @@ ghost use Rattle.virtual_log.specs.declared.fault.Fault.TheVariants.{Memory};
 ghost use Rattle.virtual_log.specs.Sealing.{SealsNone};
 ghost use Rattle.virtual_log.specs.Log.{GoesBy};
 ghost use Rattle.virtual_log.specs.Truncating.{IsTruncated, length_below, LetsGo, AreTrimmed, IsPrefixTrimmed, Spares, TrimsLooked};
-ghost use Rattle.virtual_log.specs.Saying.{SaysOnly, SaysNone};
+ghost use Rattle.virtual_log.specs.Saying.{DrawsOwn, SaysNone};
 ghost use Rattle.virtual_log.specs.Operating.{Operates, ClosesOwn};
 
 use crate::calls::Known;
@@ -83,8 +83,7 @@ fn trim_segment<T: Turns, C: Chooser>(
     ensures later { Later T.Law.law (T.seen turns.old) (T.seen turns.new) }
     ensures who { T.who turns.new ≡ T.who turns.old }
     ensures trimmed { OnOk result (segment.start < n → LetsGo (T.who turns.old) (T.seen turns.old) segment n (T.seen turns.new)) }
-    ensures words { SaysOnly (C.may chooser.old) (T.who turns.old) (T.seen turns.old) (T.seen turns.new) }
-    ensures same { C.may chooser.new ≡ C.may chooser.old }
+    ensures draws { DrawsOwn C.gives (T.who turns.old) (C.at chooser.old) (T.seen turns.old) result (C.at chooser.new) (T.seen turns.new) }
     ensures err { IfErr result (λ fault. HasCause (T.who turns.old) (T.seen turns.old) fault (T.seen turns.new)) }
     ensures unsealed { SealsNone (T.who turns.old) (T.seen turns.old) (T.seen turns.new) }
     ensures calm { OnOk result (CalmSince (T.who turns.old) (T.seen turns.old) (T.seen turns.new)) }
@@ -117,8 +116,7 @@ fn trim_segments<T: Turns, C: Chooser>(
     ensures later { Later T.Law.law (T.seen turns.old) (T.seen turns.new) }
     ensures who { T.who turns.new ≡ T.who turns.old }
     ensures trimmed { OnOk result (AreTrimmed (T.who turns.old) (T.seen turns.old) segments.now n (T.seen turns.new)) }
-    ensures words { SaysOnly (C.may chooser.old) (T.who turns.old) (T.seen turns.old) (T.seen turns.new) }
-    ensures same { C.may chooser.new ≡ C.may chooser.old }
+    ensures draws { DrawsOwn C.gives (T.who turns.old) (C.at chooser.old) (T.seen turns.old) result (C.at chooser.new) (T.seen turns.new) }
     ensures err { IfErr result (λ fault. HasCause (T.who turns.old) (T.seen turns.old) fault (T.seen turns.new)) }
     ensures unsealed { SealsNone (T.who turns.old) (T.seen turns.old) (T.seen turns.new) }
     ensures calm { OnOk result (CalmSince (T.who turns.old) (T.seen turns.old) (T.seen turns.new)) }
@@ -150,8 +148,7 @@ pub fn prefix_trim_on<T: Turns, C: Chooser>(
     ensures trimmed { IfOk result (λ trim. IsPrefixTrimmed (T.who turns.old) (T.seen turns.old) n trim (T.seen turns.new)) }
     ensures looked { OnOk result (TrimsLooked (T.who turns.old) (T.seen turns.old) n (T.seen turns.new)) }
     ensures stands { IfOk result (λ trim. trim ≡ known.new.chain.trim) }
-    ensures words { SaysOnly (C.may chooser.old) (T.who turns.old) (T.seen turns.old) (T.seen turns.new) }
-    ensures same { C.may chooser.new ≡ C.may chooser.old }
+    ensures draws { DrawsOwn C.gives (T.who turns.old) (C.at chooser.old) (T.seen turns.old) result (C.at chooser.new) (T.seen turns.new) }
     ensures err { IfErr result (λ fault. HasCause (T.who turns.old) (T.seen turns.old) fault (T.seen turns.new)) }
     ensures unsealed { SealsNone (T.who turns.old) (T.seen turns.old) (T.seen turns.new) }
     ensures calm { OnOk result (CalmSince (T.who turns.old) (T.seen turns.old) (T.seen turns.new)) }

@@ -11,7 +11,7 @@ ghost use Rattle.virtual_log.specs.Causes.{HasCause, CalmSince, IsCalmAnswer};
 ghost use Rattle.virtual_log.specs.declared.fault.Fault.TheVariants.{Memory};
 ghost use Rattle.virtual_log.specs.Writing.{WroteNone};
 ghost use Rattle.virtual_log.specs.Sealing.{SealsNone, SealsAt};
-ghost use Rattle.virtual_log.specs.Saying.{SaysOnly, SaysNone};
+ghost use Rattle.virtual_log.specs.Saying.{SaysDrawn, SparesOne, SaysNone};
 ghost use Rattle.virtual_log.specs.Operating.{Operation, Operates};
 ghost use Rattle.virtual_log.specs.Attempts.{IsOf, Attempts, AppendsNone, Idles, appends_in, refused_by};
 
@@ -94,7 +94,7 @@ pub fn forget<T: Turns>(turns: &mut T, cell: u32, ticket: Ticket) -> bool
     }
 }
 
-/// Carries an open operation to its end. Each carry takes its word from the chooser. An operation that want of memory
+/// Carries an open operation to its end. Each carry takes the chooser's next word. An operation that want of memory
 /// leaves is closed, unless memory is wanting for that too.
 pub fn carry_on<T: Turns, C: Chooser>(
     turns: &mut T,
@@ -113,8 +113,8 @@ pub fn carry_on<T: Turns, C: Chooser>(
     ensures unsealed { SealsNone (T.who turns.old) (T.seen turns.old) (T.seen turns.new) }
     ensures refused { IfOk result (λ a. (entry : Entry) → Attempts (T.who turns.old) entry (refused_by a) 0 (T.seen turns.old) (T.seen turns.new)) }
     ensures idle { OnErr result (Idles (T.who turns.old) (T.seen turns.old) (T.seen turns.new)) }
-    ensures words { SaysOnly (C.may chooser.old) (T.who turns.old) (T.seen turns.old) (T.seen turns.new) }
-    ensures same { C.may chooser.new ≡ C.may chooser.old }
+    ensures draws { OnOk result (SaysDrawn C.gives (T.who turns.old) (C.at chooser.old) (T.seen turns.old) (C.at chooser.new) (T.seen turns.new)) }
+    ensures spares { OnErr result (SparesOne C.gives (T.who turns.old) (C.at chooser.old) (T.seen turns.old) (C.at chooser.new) (T.seen turns.new)) }
     ensures calm { IfOk result (λ a. IsCalmAnswer a → CalmSince (T.who turns.old) (T.seen turns.old) (T.seen turns.new)) }
     ensures memory { OnErr result (CalmSince (T.who turns.old) (T.seen turns.old) (T.seen turns.new)) }
     ensures closes { OnOk result (Operates (T.who turns.old) (Some (record { loglet = cell; ticket = ticket })) None (T.seen turns.old) (T.seen turns.new)) }

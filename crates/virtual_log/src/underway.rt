@@ -1,7 +1,7 @@
 //! An append that is begun before another ends, turn by turn. Where its loglet is sealed, the chain is let go on behind
 //! it as every call does (OSDI 2020): its sealed tail is found, the chain is written that closes it there, and the
 //! append is begun again. Whoever comes first wins; the others take the chain that they find.
-ghost use Rattle.std.specs.Prelude.{◌≡◌, ◌≤◌, ◌+◌, ℕ, Bool, Option, None, List, ◌++◌, max, IfOk, OnOk, IfErr, OnErr, IfSome, IfNone};
+ghost use Rattle.std.specs.Prelude.{◌≡◌, ◌≤◌, ◌+◌, ℕ, Option, None, List, ◌++◌, max, IfOk, OnOk, IfErr, OnErr, IfSome, IfNone};
 ghost use Rattle.delos_types.specs.declared.chain.Chain.{Chain};
 ghost use Rattle.chain_map.specs.Chain.{last_segment};
 ghost use Rattle.delos_types.specs.Spelling.{IsSpellable};
@@ -16,7 +16,7 @@ ghost use Rattle.virtual_log.specs.declared.fault.Fault.TheVariants.{Memory};
 ghost use Rattle.virtual_log.specs.declared.underway.Going.{Going};
 ghost use Rattle.virtual_log.specs.declared.underway.Step.TheVariants.{Starting, Appending, Reading, Asking, Finding, Closing, Dropping};
 ghost use Rattle.virtual_log.specs.Sealing.{SealsNone};
-ghost use Rattle.virtual_log.specs.Saying.{SaysOnly, is_among};
+ghost use Rattle.virtual_log.specs.Saying.{SaysNone, DrawsOwn};
 ghost use Rattle.virtual_log.specs.Operating.{Operation, Operates};
 ghost use Rattle.virtual_log.specs.Log.{GoesBy};
 ghost use Rattle.virtual_log.specs.Holding.{Holds};
@@ -108,7 +108,8 @@ fn start<T: Turns>(turns: &mut T, known: &Known, going: &mut Going) -> Result<Op
     requires going { (early : List Event) × IsGoing T.Law.law.may (T.who turns.old) early (T.seen turns.old) known.now.chain going.old }
     requires step { going.old.step ≡ Starting }
     ensures who { T.who turns.new ≡ T.who turns.old }
-    ensures went { (words : ℕ → Bool) → Went T.Law.law words (T.who turns.old) (T.seen turns.old) known.now going.old
+    ensures silent { SaysNone (T.who turns.old) (T.seen turns.old) (T.seen turns.new) }
+    ensures went { Went T.Law.law (T.who turns.old) (T.seen turns.old) known.now going.old
         (T.seen turns.new) known.now going.new result }
 {
     let segment = last_of(&known.chain);
@@ -138,8 +139,8 @@ fn carry_append<T: Turns, C: Chooser>(
     requires going { (early : List Event) × IsGoing T.Law.law.may (T.who turns.old) early (T.seen turns.old) known.old.chain going.old }
     requires step { going.old.step ≡ Appending segment ticket }
     ensures who { T.who turns.new ≡ T.who turns.old }
-    ensures same { C.may chooser.new ≡ C.may chooser.old }
-    ensures went { Went T.Law.law (C.may chooser.old) (T.who turns.old) (T.seen turns.old) known.old going.old
+    ensures draws { DrawsOwn C.gives (T.who turns.old) (C.at chooser.old) (T.seen turns.old) result (C.at chooser.new) (T.seen turns.new) }
+    ensures went { Went T.Law.law (T.who turns.old) (T.seen turns.old) known.old going.old
         (T.seen turns.new) known.new going.new result }
 {
     let word = chooser.word();
@@ -183,7 +184,8 @@ fn read<T: Turns>(
     requires going { (early : List Event) × IsGoing T.Law.law.may (T.who turns.old) early (T.seen turns.old) known.old.chain going.old }
     requires step { going.old.step ≡ Reading segment }
     ensures who { T.who turns.new ≡ T.who turns.old }
-    ensures went { (words : ℕ → Bool) → Went T.Law.law words (T.who turns.old) (T.seen turns.old) known.old going.old
+    ensures silent { SaysNone (T.who turns.old) (T.seen turns.old) (T.seen turns.new) }
+    ensures went { Went T.Law.law (T.who turns.old) (T.seen turns.old) known.old going.old
         (T.seen turns.new) known.new going.new result }
 {
     match turns.turn(FabricCall::ReadChain) {
@@ -211,7 +213,8 @@ fn ask<T: Turns>(
     requires going { (early : List Event) × IsGoing T.Law.law.may (T.who turns.old) early (T.seen turns.old) known.now.chain going.old }
     requires step { going.old.step ≡ Asking segment }
     ensures who { T.who turns.new ≡ T.who turns.old }
-    ensures went { (words : ℕ → Bool) → Went T.Law.law words (T.who turns.old) (T.seen turns.old) known.now going.old
+    ensures silent { SaysNone (T.who turns.old) (T.seen turns.old) (T.seen turns.new) }
+    ensures went { Went T.Law.law (T.who turns.old) (T.seen turns.old) known.now going.old
         (T.seen turns.new) known.now going.new result }
 {
     match turns.turn(FabricCall::Begin(segment.id, Op::Tail)) {
@@ -239,8 +242,8 @@ fn find<T: Turns, C: Chooser>(
     requires going { (early : List Event) × IsGoing T.Law.law.may (T.who turns.old) early (T.seen turns.old) known.now.chain going.old }
     requires step { going.old.step ≡ Finding segment ticket }
     ensures who { T.who turns.new ≡ T.who turns.old }
-    ensures same { C.may chooser.new ≡ C.may chooser.old }
-    ensures went { Went T.Law.law (C.may chooser.old) (T.who turns.old) (T.seen turns.old) known.now going.old
+    ensures draws { DrawsOwn C.gives (T.who turns.old) (C.at chooser.old) (T.seen turns.old) result (C.at chooser.new) (T.seen turns.new) }
+    ensures went { Went T.Law.law (T.who turns.old) (T.seen turns.old) known.now going.old
         (T.seen turns.new) known.now going.new result }
 {
     let word = chooser.word();
@@ -282,7 +285,8 @@ fn close<T: Turns>(
     requires step { going.old.step ≡ Closing segment length }
     requires last { (last_segment known.old.chain).id ≡ segment.id }
     ensures who { T.who turns.new ≡ T.who turns.old }
-    ensures went { (words : ℕ → Bool) → Went T.Law.law words (T.who turns.old) (T.seen turns.old) known.old going.old
+    ensures silent { SaysNone (T.who turns.old) (T.seen turns.old) (T.seen turns.new) }
+    ensures went { Went T.Law.law (T.who turns.old) (T.seen turns.old) known.old going.old
         (T.seen turns.new) known.new going.new result }
 {
     let next = extend(alloc, &known.chain, length)?;
@@ -316,7 +320,8 @@ fn drop_and_start<T: Turns>(
     requires going { (early : List Event) × IsGoing T.Law.law.may (T.who turns.old) early (T.seen turns.old) known.now.chain going.old }
     requires step { going.old.step ≡ Dropping cell ticket }
     ensures who { T.who turns.new ≡ T.who turns.old }
-    ensures went { (words : ℕ → Bool) → Went T.Law.law words (T.who turns.old) (T.seen turns.old) known.now going.old
+    ensures silent { SaysNone (T.who turns.old) (T.seen turns.old) (T.seen turns.new) }
+    ensures went { Went T.Law.law (T.who turns.old) (T.seen turns.old) known.now going.old
         (T.seen turns.new) known.now going.new result }
 {
     match forget(turns, cell, ticket) {
@@ -342,8 +347,8 @@ fn advance<T: Turns, C: Chooser>(
     requires going { (early : List Event) × IsGoing T.Law.law.may (T.who turns.old) early (T.seen turns.old) known.old.chain going.old }
     requires due { due (last_segment known.old.chain).id going.old.step ≡ going.old.step }
     ensures who { T.who turns.new ≡ T.who turns.old }
-    ensures same { C.may chooser.new ≡ C.may chooser.old }
-    ensures went { Went T.Law.law (C.may chooser.old) (T.who turns.old) (T.seen turns.old) known.old going.old
+    ensures draws { DrawsOwn C.gives (T.who turns.old) (C.at chooser.old) (T.seen turns.old) result (C.at chooser.new) (T.seen turns.new) }
+    ensures went { Went T.Law.law (T.who turns.old) (T.seen turns.old) known.old going.old
         (T.seen turns.new) known.new going.new result }
 {
     match &going.step {
@@ -404,8 +409,7 @@ pub fn go_on_with<T: Turns, C: Chooser>(
     ensures again { IfErr result (λ fault. fault ≡ Memory → StaysGoing T.Law.law.may (T.who turns.old) (T.seen turns.old) known.old.chain going.old (T.seen turns.new) known.new.chain going.new) }
     ensures left { LeavesNone going.old.step (T.seen turns.new) going.new.step }
     ensures others { LeavesOthers T.Law.law.may (T.who turns.old) (T.seen turns.old) known.old.chain going.old (T.seen turns.new) known.new.chain going.new }
-    ensures words { SaysOnly (C.may chooser.old) (T.who turns.old) (T.seen turns.old) (T.seen turns.new) }
-    ensures same { C.may chooser.new ≡ C.may chooser.old }
+    ensures draws { DrawsOwn C.gives (T.who turns.old) (C.at chooser.old) (T.seen turns.old) result (C.at chooser.new) (T.seen turns.new) }
     ensures err { IfErr result (λ fault. HasCause (T.who turns.old) (T.seen turns.old) fault (T.seen turns.new)) }
     ensures unsealed { SealsNone (T.who turns.old) (T.seen turns.old) (T.seen turns.new) }
     ensures calm { OnOk result (CalmSince (T.who turns.old) (T.seen turns.old) (T.seen turns.new)) }
@@ -435,7 +439,7 @@ pub fn start_append_on<T: Turns>(
     ensures began { IfOk result (λ going. OneTurn (T.who turns.old) (T.seen turns.old) (Moves entry.now known.now.version known.now.chain Starting known.now.version known.now.chain going.step) (T.seen turns.new)) }
     ensures others { (early : List Event) (other : Going) → IsGoing T.Law.law.may (T.who turns.old) early (T.seen turns.old) known.now.chain other
         → IsGoing T.Law.law.may (T.who turns.old) early (T.seen turns.new) known.now.chain other × IfOk result (λ going. AreApart going other) }
-    ensures words { (words : ℕ → Bool) → SaysOnly words (T.who turns.old) (T.seen turns.old) (T.seen turns.new) }
+    ensures silent { SaysNone (T.who turns.old) (T.seen turns.old) (T.seen turns.new) }
     ensures err { IfErr result (λ fault. HasCause (T.who turns.old) (T.seen turns.old) fault (T.seen turns.new)) }
     ensures unsealed { SealsNone (T.who turns.old) (T.seen turns.old) (T.seen turns.new) }
     ensures calm { OnOk result (CalmSince (T.who turns.old) (T.seen turns.old) (T.seen turns.new)) }
@@ -479,7 +483,6 @@ impl<T: Turns, C: Chooser> VirtualLog<T, C> {
     /// others of this value may be underway.
     ///
     /// Cost: one turn.
-    #[tactic(auto, using(crate::proofs::Saying::says_among))]
     pub fn start_append(&mut self, entry: &Entry) -> Result<Going, Fault>
         requires may { T.Law.law.may self.old.who entry.now }
         requires spelled { IsSpellable entry.now }
@@ -497,7 +500,7 @@ impl<T: Turns, C: Chooser> VirtualLog<T, C> {
         ensures others { (early : List Event) (other : Going) → IsGoing T.Law.law.may self.old.who early self.old.seen self.old.chain other
             → IsGoing T.Law.law.may self.old.who early self.new.seen self.new.chain other × IfOk result (λ going. AreApart going other) }
         ensures known { self.new.known ≡ self.old.known }
-        ensures words { SaysOnly (is_among self.old.words) self.old.who self.old.seen self.new.seen }
+        ensures silent { SaysNone self.old.who self.old.seen self.new.seen }
         ensures same { self.new.words ≡ self.old.words }
         ensures err { IfErr result (λ fault. HasCause self.old.who self.old.seen fault self.new.seen) }
         ensures unsealed { SealsNone self.old.who self.old.seen self.new.seen }
@@ -512,7 +515,6 @@ impl<T: Turns, C: Chooser> VirtualLog<T, C> {
     /// may stand in the log once more.
     ///
     /// Cost: one turn. A ticket that want of memory leaves is closed by one turn more.
-    #[tactic(auto, using(crate::proofs::Saying::says_among))]
     pub fn go_on(&mut self, going: &mut Going) -> Result<Option<u64>, Fault>
         requires going { (early : List Event) × IsGoing T.Law.law.may self.old.who early self.old.seen self.old.chain going.old }
         ensures later { Later T.Law.law self.old.seen self.new.seen }
@@ -545,9 +547,8 @@ impl<T: Turns, C: Chooser> VirtualLog<T, C> {
         // Whatever else is underway, under another ticket, stays so.
         ensures others { LeavesOthers T.Law.law.may self.old.who self.old.seen self.old.chain going.old self.new.seen self.new.chain going.new }
 
-        // Each word with which it carried is one that the chooser may give, and those are the same after it.
-        ensures words { SaysOnly (is_among self.old.words) self.old.who self.old.seen self.new.seen }
-        ensures same { self.new.words ≡ self.old.words }
+        // The word with which it carried is the one that the chooser gave next, and it gave no other.
+        ensures draws { DrawsOwn C.gives self.old.who self.old.words self.old.seen result self.new.words self.new.seen }
         ensures err { IfErr result (λ fault. HasCause self.old.who self.old.seen fault self.new.seen) }
         ensures unsealed { SealsNone self.old.who self.old.seen self.new.seen }
         ensures calm { OnOk result (CalmSince self.old.who self.old.seen self.new.seen) }

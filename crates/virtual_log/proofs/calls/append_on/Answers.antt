@@ -10,7 +10,7 @@ use Rattle.virtual_log.proofs.OneTurn.{later_trans, cause_since, later_refl}
 use Rattle.virtual_log.proofs.Appending.{above_since}
 use Rattle.virtual_log.proofs.Going.{last_there, there_later, goes_later, goes_further, reach_fits, goes_behind, fewer}
 use Rattle.virtual_log.proofs.Holding.{placed_held}
-use Rattle.virtual_log.proofs.Saying.{says_refl, says_on}
+use Rattle.virtual_log.proofs.Saying.{drawn_refl, drawn_then, draws_then}
 use Rattle.virtual_log.proofs.Sealing.{seals_refl, seals_then}
 use Rattle.virtual_log.proofs.Calming.{calm_refl, calm_then}
 use Rattle.virtual_log.proofs.Operating.{operates_refl, operates_then, left_then}
@@ -196,14 +196,6 @@ segment-preserved g c =
       above = λ pos new later x.
           i.above pos new (later_trans p.law now end new (later_trans p.law now mid end to_mid from.later) later)
           (above_since p.law (t.who c.args.turns.now) pos now mid end new (subst (λ w. FirstTurn w now mid) i.who first) from.later later x);
-      words =
-          let who = t.who c.args.turns.now in
-          let old = t.seen c.args.turns.now in
-          let may = g.C.Chooser.may in
-          let words = may c.args.chooser.now in
-          says_on words (may c.append_to.new.chooser) who (t.who c.append_to.new.turns) old (t.seen c.append_to.new.turns) (t.seen c.chain_behind.new.turns) (c.in_ok-position.ensures.same ∙ i.same) (c.in_ok-position.ensures.who ∙ i.who)
-          (says_on words (may l.chooser) who (t.who l.turns) old now (t.seen c.append_to.new.turns) i.same i.who i.words c.in_ok-position.ensures.words)
-          c.in_ok-version.ensures.words;
       unsealed =
           let who = t.who c.args.turns.now in
           let old = t.seen c.args.turns.now in
@@ -216,51 +208,16 @@ segment-preserved g c =
           let who = t.who c.args.turns.now in
           let old = t.seen c.args.turns.now in
           operates_then who (t.who c.append_to.new.turns) old (t.seen c.append_to.new.turns) (t.seen c.chain_behind.new.turns) (c.in_ok-position.ensures.who ∙ i.who) (operates_then who (t.who l.turns) old now (t.seen c.append_to.new.turns) i.who i.closes c.in_ok-position.ensures.closes) c.in_ok-version.ensures.closes;
+      draws =
+          let who = t.who c.args.turns.now in
+          let old = t.seen c.args.turns.now in
+          drawn_then who (t.who c.append_to.new.turns) old (t.seen c.append_to.new.turns) (t.seen c.chain_behind.new.turns) (c.in_ok-position.ensures.who ∙ i.who) (drawn_then who (t.who l.turns) old now (t.seen c.append_to.new.turns) i.who i.draws c.in_ok-position.ensures.draws) c.in_ok-version.ensures.draws;
       refused =
           let who = t.who c.args.turns.now in
           let old = t.seen c.args.turns.now in
           let again = subst (λ o. IfNone o (AppendsNone (t.who l.turns) c.args.entry.now now mid)) c.in_default.is c.in_ok-position.ensures.refused in
           attempts_then who (t.who c.append_to.new.turns) c.args.entry.now old mid end (c.in_ok-position.ensures.who ∙ i.who) (attempts_then who (t.who l.turns) c.args.entry.now old now mid i.who i.refused again) (from.idle c.args.entry.now);
-      same = from.same ∙ (c.in_ok-position.ensures.same ∙ i.same);
     }
-
-pub returns-in_err-position-clause-words : goal.returns-in_err-position-clause-words
-returns-in_err-position-clause-words g c =
-    let t = g.T.Turns in
-    let who = t.who c.args.turns.now in
-    let old = t.seen c.args.turns.now in
-    let may = g.C.Chooser.may in
-    let words = may c.args.chooser.now in
-    let l = c.segment in
-    let i = l.invariant in
-    let now = t.seen l.turns in
-    says_on words (may l.chooser) who (t.who l.turns) old now (t.seen c.append_to.new.turns) i.same i.who i.words c.in_err-position.ensures.words
-
-pub returns-in-Some-clause-words : goal.returns-in-Some-clause-words
-returns-in-Some-clause-words g c =
-    let t = g.T.Turns in
-    let who = t.who c.args.turns.now in
-    let old = t.seen c.args.turns.now in
-    let may = g.C.Chooser.may in
-    let words = may c.args.chooser.now in
-    let l = c.segment in
-    let i = l.invariant in
-    let now = t.seen l.turns in
-    says_on words (may l.chooser) who (t.who l.turns) old now (t.seen c.append_to.new.turns) i.same i.who i.words c.in_ok-position.ensures.words
-
-pub returns-in_err-version-clause-words : goal.returns-in_err-version-clause-words
-returns-in_err-version-clause-words g c =
-    let t = g.T.Turns in
-    let who = t.who c.args.turns.now in
-    let old = t.seen c.args.turns.now in
-    let may = g.C.Chooser.may in
-    let words = may c.args.chooser.now in
-    let l = c.segment in
-    let i = l.invariant in
-    let now = t.seen l.turns in
-    says_on words (may c.append_to.new.chooser) who (t.who c.append_to.new.turns) old (t.seen c.append_to.new.turns) (t.seen c.chain_behind.new.turns) (c.in_ok-position.ensures.same ∙ i.same) (c.in_ok-position.ensures.who ∙ i.who)
-    (says_on words (may l.chooser) who (t.who l.turns) old now (t.seen c.append_to.new.turns) i.same i.who i.words c.in_ok-position.ensures.words)
-    c.in_err-version.ensures.words
 
 pub segment-init : goal.segment-init
 segment-init g c =
@@ -274,12 +231,11 @@ segment-init g c =
       tail = refl;
       rises = omega arith;
       above = λ pos new later x. x;
-      words = says_refl (g.C.Chooser.may c.args.chooser.now) (t.who c.args.turns.now) old;
       unsealed = seals_refl (t.who c.args.turns.now) old;
       refused = idle_refl (t.who c.args.turns.now) old c.args.entry.now;
       calm = calm_refl (t.who c.args.turns.now) old;
       closes = operates_refl (t.who c.args.turns.now) None old;
-      same = refl;
+      draws = drawn_refl (t.who c.args.turns.now) old;
     }
 
 pub returns-in_err-position-clause-unsealed : goal.returns-in_err-position-clause-unsealed
@@ -437,3 +393,35 @@ returns-in_err-version-clause-at_most g c =
     let again = subst (λ o. IfNone o (AppendsNone (t.who l.turns) e now mid)) c.in_default.is c.in_ok-position.ensures.refused in
     let r = err_from_is_err_and c.from_residual-in_err-version.result c.from_residual-in_err-version.ensures.1 in
     rw (r.1, r.2) (at_most_none who e old end c.in_err-version.field-0.0 (attempts_then who (t.who c.append_to.new.turns) e old mid end (c.in_ok-position.ensures.who ∙ i.who) (attempts_then who (t.who l.turns) e old now mid i.who i.refused again) (c.in_err-version.ensures.idle e)))
+
+pub returns-in_err-position-clause-draws : goal.returns-in_err-position-clause-draws
+returns-in_err-position-clause-draws g c =
+    let t = g.T.Turns in
+    let who = t.who c.args.turns.now in
+    let old = t.seen c.args.turns.now in
+    let l = c.segment in
+    let i = l.invariant in
+    let now = t.seen l.turns in
+    let r = err_from_is_err_and c.from_residual.result c.from_residual.ensures.1 in
+    rw (r.1, r.2) (draws_then _ who (t.who l.turns) old now (t.seen c.append_to.new.turns) c.in_err-position.field-0.0 i.who i.draws c.in_err-position.ensures.draws)
+
+pub returns-in-Some-clause-draws : goal.returns-in-Some-clause-draws
+returns-in-Some-clause-draws g c =
+    let t = g.T.Turns in
+    let who = t.who c.args.turns.now in
+    let old = t.seen c.args.turns.now in
+    let l = c.segment in
+    let i = l.invariant in
+    let now = t.seen l.turns in
+    drawn_then who (t.who l.turns) old now (t.seen c.append_to.new.turns) i.who i.draws c.in_ok-position.ensures.draws
+
+pub returns-in_err-version-clause-draws : goal.returns-in_err-version-clause-draws
+returns-in_err-version-clause-draws g c =
+    let t = g.T.Turns in
+    let who = t.who c.args.turns.now in
+    let old = t.seen c.args.turns.now in
+    let l = c.segment in
+    let i = l.invariant in
+    let now = t.seen l.turns in
+    let r = err_from_is_err_and c.from_residual-in_err-version.result c.from_residual-in_err-version.ensures.1 in
+    rw (r.1, r.2) (draws_then _ who (t.who c.append_to.new.turns) old (t.seen c.append_to.new.turns) (t.seen c.chain_behind.new.turns) c.in_err-version.field-0.0 (c.in_ok-position.ensures.who ∙ i.who) (drawn_then who (t.who l.turns) old now (t.seen c.append_to.new.turns) i.who i.draws c.in_ok-position.ensures.draws) c.in_err-version.ensures.draws)

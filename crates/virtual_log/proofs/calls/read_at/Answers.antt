@@ -13,7 +13,7 @@ use Rattle.virtual_log.proofs.Appending.{may_read, started_within}
 use Rattle.virtual_log.proofs.Levels.{level_tail, silent_level}
 use Rattle.virtual_log.proofs.Reading.{place_of, got_ok, cut_ok}
 use Rattle.virtual_log.proofs.Holding.{got_held}
-use Rattle.virtual_log.proofs.Saying.{says_then}
+use Rattle.virtual_log.proofs.Saying.{none_drawn, drawn_then, draws_any, spares_then}
 use Rattle.virtual_log.proofs.Sealing.{seals_then}
 use Rattle.virtual_log.proofs.Calming.{calm_then}
 use Rattle.virtual_log.proofs.Answering.{read_answers, never_beyond}
@@ -164,33 +164,6 @@ returns-in-NoQuorum-clause-err g c =
     cause_since who (fault.NoQuorum id c.in-NoQuorum.unreached) old mid new c.in_ok-ticket.ensures.later.more c.in_ok-ticket.ensures.later.seen
     (lack_cause who id c.in_ok-ticket.ticket c.in-NoQuorum.unreached mid new x.event)
 
-pub returns-in_err-ticket-clause-words : goal.returns-in_err-ticket-clause-words
-returns-in_err-ticket-clause-words g c = c.in_err-ticket.ensures.silent (g.C.Chooser.may c.args.chooser.now)
-
-pub returns-in_err-entry-clause-words : goal.returns-in_err-entry-clause-words
-returns-in_err-entry-clause-words g c =
-    let t = g.T.Turns in
-    let words = g.C.Chooser.may c.args.chooser.now in
-    says_then words (t.who c.args.turns.now) (t.who c.begin.new.turns) (t.seen c.args.turns.now) (t.seen c.begin.new.turns) (t.seen c.carry_on.new.turns) c.in_ok-ticket.ensures.who (c.in_ok-ticket.ensures.silent words) c.in_err-entry.ensures.words
-
-pub returns-in-Got-clause-words : goal.returns-in-Got-clause-words
-returns-in-Got-clause-words g c =
-    let t = g.T.Turns in
-    let words = g.C.Chooser.may c.args.chooser.now in
-    says_then words (t.who c.args.turns.now) (t.who c.begin.new.turns) (t.seen c.args.turns.now) (t.seen c.begin.new.turns) (t.seen c.carry_on.new.turns) c.in_ok-ticket.ensures.who (c.in_ok-ticket.ensures.silent words) c.in_ok-entry.ensures.words
-
-pub returns-in-CutAt-clause-words : goal.returns-in-CutAt-clause-words
-returns-in-CutAt-clause-words g c =
-    let t = g.T.Turns in
-    let words = g.C.Chooser.may c.args.chooser.now in
-    says_then words (t.who c.args.turns.now) (t.who c.begin.new.turns) (t.seen c.args.turns.now) (t.seen c.begin.new.turns) (t.seen c.carry_on.new.turns) c.in_ok-ticket.ensures.who (c.in_ok-ticket.ensures.silent words) c.in_ok-entry.ensures.words
-
-pub returns-in-NoQuorum-clause-words : goal.returns-in-NoQuorum-clause-words
-returns-in-NoQuorum-clause-words g c =
-    let t = g.T.Turns in
-    let words = g.C.Chooser.may c.args.chooser.now in
-    says_then words (t.who c.args.turns.now) (t.who c.begin.new.turns) (t.seen c.args.turns.now) (t.seen c.begin.new.turns) (t.seen c.carry_on.new.turns) c.in_ok-ticket.ensures.who (c.in_ok-ticket.ensures.silent words) c.in_ok-entry.ensures.words
-
 pub returns-in_err-ticket-clause-unsealed : goal.returns-in_err-ticket-clause-unsealed
 returns-in_err-ticket-clause-unsealed g c = (c.in_err-ticket.ensures.unsealed refl)
 
@@ -278,3 +251,27 @@ pub returns-in-NoQuorum-clause-closes : goal.returns-in-NoQuorum-clause-closes
 returns-in-NoQuorum-clause-closes g c =
     let t = g.T.Turns in
     operates_then (t.who c.args.turns.now) (t.who c.begin.new.turns) (t.seen c.args.turns.now) (t.seen c.begin.new.turns) (t.seen c.carry_on.new.turns) c.in_ok-ticket.ensures.who c.in_ok-ticket.ensures.opens c.in_ok-entry.ensures.closes
+
+pub returns-in_err-ticket-clause-draws : goal.returns-in_err-ticket-clause-draws
+returns-in_err-ticket-clause-draws g c = draws_any _ _ _ c.from_residual.result (none_drawn c.in_err-ticket.ensures.silent)
+
+pub returns-in_err-entry-clause-draws : goal.returns-in_err-entry-clause-draws
+returns-in_err-entry-clause-draws g c =
+    let t = g.T.Turns in
+    let r = err_from_is_err_and c.from_residual-in_err-entry.result c.from_residual-in_err-entry.ensures.1 in
+    rw (r.1, r.2) (spares_then (t.who c.args.turns.now) (t.who c.begin.new.turns) (t.seen c.args.turns.now) (t.seen c.begin.new.turns) (t.seen c.carry_on.new.turns) c.in_ok-ticket.ensures.who (none_drawn c.in_ok-ticket.ensures.silent) c.in_err-entry.ensures.spares)
+
+pub returns-in-Got-clause-draws : goal.returns-in-Got-clause-draws
+returns-in-Got-clause-draws g c =
+    let t = g.T.Turns in
+    drawn_then (t.who c.args.turns.now) (t.who c.begin.new.turns) (t.seen c.args.turns.now) (t.seen c.begin.new.turns) (t.seen c.carry_on.new.turns) c.in_ok-ticket.ensures.who (none_drawn c.in_ok-ticket.ensures.silent) c.in_ok-entry.ensures.draws
+
+pub returns-in-CutAt-clause-draws : goal.returns-in-CutAt-clause-draws
+returns-in-CutAt-clause-draws g c =
+    let t = g.T.Turns in
+    drawn_then (t.who c.args.turns.now) (t.who c.begin.new.turns) (t.seen c.args.turns.now) (t.seen c.begin.new.turns) (t.seen c.carry_on.new.turns) c.in_ok-ticket.ensures.who (none_drawn c.in_ok-ticket.ensures.silent) c.in_ok-entry.ensures.draws
+
+pub returns-in-NoQuorum-clause-draws : goal.returns-in-NoQuorum-clause-draws
+returns-in-NoQuorum-clause-draws g c =
+    let t = g.T.Turns in
+    drawn_then (t.who c.args.turns.now) (t.who c.begin.new.turns) (t.seen c.args.turns.now) (t.seen c.begin.new.turns) (t.seen c.carry_on.new.turns) c.in_ok-ticket.ensures.who (none_drawn c.in_ok-ticket.ensures.silent) c.in_ok-entry.ensures.draws

@@ -8,7 +8,7 @@ use Rattle.virtual_log.proofs.OneTurn.{later_trans, later_continues, cause_since
 use Rattle.virtual_log.proofs.Going.{goes_later, goes_now, trim_now}
 use Rattle.virtual_log.specs.Holding.{Holds}
 use Rattle.virtual_log.proofs.Holding.{reads_found}
-use Rattle.virtual_log.proofs.Saying.{says_refl, says_then, says_on}
+use Rattle.virtual_log.proofs.Saying.{drawn_refl, none_drawn, drawn_then, draws_any, draws_then}
 use Rattle.virtual_log.proofs.Sealing.{seals_refl, seals_then}
 use Rattle.virtual_log.proofs.Calming.{calm_refl, calm_then}
 use Rattle.virtual_log.proofs.Operating.{operates_refl, operates_then, left_then, closes_none}
@@ -133,14 +133,6 @@ trim-preserved g c =
       first =
           let cut = subst (λ o. IfNone o (c.max-pos.result < trim_of (state_of mid))) c.in_default.is c.in_ok-entry.ensures.cut in
           inr (omega (arith, cut, (later_continues p.law mid end to_end).trim, c.max-pos.ensures));
-      words =
-          let who = t.who c.args.turns.now in
-          let old = t.seen c.args.turns.now in
-          let may = g.C.Chooser.may in
-          let words = may c.args.chooser.now in
-          says_then words who (t.who c.read_at.new.turns) old (t.seen c.read_at.new.turns) (t.seen c.look.new.turns) (c.in_ok-entry.ensures.who ∙ i.who)
-          (says_on words (may l.chooser) who (t.who l.turns) old now (t.seen c.read_at.new.turns) i.same i.who i.words c.in_ok-entry.ensures.words)
-          (c.in_ok-version.ensures.silent words);
       unsealed =
           let who = t.who c.args.turns.now in
           let old = t.seen c.args.turns.now in
@@ -153,46 +145,11 @@ trim-preserved g c =
           let who = t.who c.args.turns.now in
           let old = t.seen c.args.turns.now in
           operates_then who (t.who c.read_at.new.turns) old (t.seen c.read_at.new.turns) (t.seen c.look.new.turns) (c.in_ok-entry.ensures.who ∙ i.who) (operates_then who (t.who l.turns) old now (t.seen c.read_at.new.turns) i.who i.closes c.in_ok-entry.ensures.closes) c.in_ok-version.ensures.closes;
-      same = c.in_ok-entry.ensures.same ∙ i.same;
+      draws =
+          let who = t.who c.args.turns.now in
+          let old = t.seen c.args.turns.now in
+          drawn_then who (t.who c.read_at.new.turns) old (t.seen c.read_at.new.turns) (t.seen c.look.new.turns) (c.in_ok-entry.ensures.who ∙ i.who) (drawn_then who (t.who l.turns) old now (t.seen c.read_at.new.turns) i.who i.draws c.in_ok-entry.ensures.draws) (none_drawn c.in_ok-version.ensures.silent);
     }
-
-pub returns-in_err-entry-clause-words : goal.returns-in_err-entry-clause-words
-returns-in_err-entry-clause-words g c =
-    let t = g.T.Turns in
-    let who = t.who c.args.turns.now in
-    let old = t.seen c.args.turns.now in
-    let may = g.C.Chooser.may in
-    let words = may c.args.chooser.now in
-    let l = c.trim in
-    let i = l.invariant in
-    let now = t.seen l.turns in
-    says_on words (may l.chooser) who (t.who l.turns) old now (t.seen c.read_at.new.turns) i.same i.who i.words c.in_err-entry.ensures.words
-
-pub returns-in-Some-clause-words : goal.returns-in-Some-clause-words
-returns-in-Some-clause-words g c =
-    let t = g.T.Turns in
-    let who = t.who c.args.turns.now in
-    let old = t.seen c.args.turns.now in
-    let may = g.C.Chooser.may in
-    let words = may c.args.chooser.now in
-    let l = c.trim in
-    let i = l.invariant in
-    let now = t.seen l.turns in
-    says_on words (may l.chooser) who (t.who l.turns) old now (t.seen c.read_at.new.turns) i.same i.who i.words c.in_ok-entry.ensures.words
-
-pub returns-in_err-version-clause-words : goal.returns-in_err-version-clause-words
-returns-in_err-version-clause-words g c =
-    let t = g.T.Turns in
-    let who = t.who c.args.turns.now in
-    let old = t.seen c.args.turns.now in
-    let may = g.C.Chooser.may in
-    let words = may c.args.chooser.now in
-    let l = c.trim in
-    let i = l.invariant in
-    let now = t.seen l.turns in
-    says_then words who (t.who c.read_at.new.turns) old (t.seen c.read_at.new.turns) (t.seen c.look.new.turns) (c.in_ok-entry.ensures.who ∙ i.who)
-    (says_on words (may l.chooser) who (t.who l.turns) old now (t.seen c.read_at.new.turns) i.same i.who i.words c.in_ok-entry.ensures.words)
-    (c.in_err-version.ensures.silent words)
 
 pub trim-init : goal.trim-init
 trim-init g c =
@@ -206,11 +163,10 @@ trim-init g c =
       tail = refl;
       rises = omega arith;
       first = inl refl;
-      words = says_refl (g.C.Chooser.may c.args.chooser.now) (t.who c.args.turns.now) old;
       unsealed = seals_refl (t.who c.args.turns.now) old;
       calm = calm_refl (t.who c.args.turns.now) old;
       closes = operates_refl (t.who c.args.turns.now) None old;
-      same = refl;
+      draws = drawn_refl (t.who c.args.turns.now) old;
     }
 
 pub returns-in_err-entry-clause-unsealed : goal.returns-in_err-entry-clause-unsealed
@@ -327,3 +283,34 @@ returns-in-Some-clause-rises g c = c.trim.invariant.rises
 
 pub returns-in_err-version-clause-rises : goal.returns-in_err-version-clause-rises
 returns-in_err-version-clause-rises g c = c.trim.invariant.rises
+
+pub returns-in_err-entry-clause-draws : goal.returns-in_err-entry-clause-draws
+returns-in_err-entry-clause-draws g c =
+    let t = g.T.Turns in
+    let who = t.who c.args.turns.now in
+    let old = t.seen c.args.turns.now in
+    let l = c.trim in
+    let i = l.invariant in
+    let now = t.seen l.turns in
+    let r = err_from_is_err_and c.from_residual.result c.from_residual.ensures.1 in
+    rw (r.1, r.2) (draws_then _ who (t.who l.turns) old now (t.seen c.read_at.new.turns) c.in_err-entry.field-0.0 i.who i.draws c.in_err-entry.ensures.draws)
+
+pub returns-in-Some-clause-draws : goal.returns-in-Some-clause-draws
+returns-in-Some-clause-draws g c =
+    let t = g.T.Turns in
+    let who = t.who c.args.turns.now in
+    let old = t.seen c.args.turns.now in
+    let l = c.trim in
+    let i = l.invariant in
+    let now = t.seen l.turns in
+    drawn_then who (t.who l.turns) old now (t.seen c.read_at.new.turns) i.who i.draws c.in_ok-entry.ensures.draws
+
+pub returns-in_err-version-clause-draws : goal.returns-in_err-version-clause-draws
+returns-in_err-version-clause-draws g c =
+    let t = g.T.Turns in
+    let who = t.who c.args.turns.now in
+    let old = t.seen c.args.turns.now in
+    let l = c.trim in
+    let i = l.invariant in
+    let now = t.seen l.turns in
+    draws_any _ _ _ c.from_residual-in_err-version.result (drawn_then who (t.who c.read_at.new.turns) old (t.seen c.read_at.new.turns) (t.seen c.look.new.turns) (c.in_ok-entry.ensures.who ∙ i.who) (drawn_then who (t.who l.turns) old now (t.seen c.read_at.new.turns) i.who i.draws c.in_ok-entry.ensures.draws) (none_drawn c.in_err-version.ensures.silent))

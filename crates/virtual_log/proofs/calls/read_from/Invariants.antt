@@ -3,7 +3,7 @@ use Rattle.std.proofs.Common.{◌≡◌, ◌⊎◌, ◌-◌, ◌<◌, ◌^◌, N
 use Rattle.legal_journal.specs.Journal.{state_of, trim_of}
 use Rattle.virtual_log.specs.Turning.{Later}
 use Rattle.virtual_log.specs.Log.{GoesBy}
-use Rattle.virtual_log.specs.Saying.{SaysOnly}
+use Rattle.virtual_log.specs.Saying.{SaysDrawn}
 use Rattle.virtual_log.specs.Sealing.{SealsNone}
 use Rattle.virtual_log.specs.Causes.{CalmSince}
 use Rattle.virtual_log.specs.Operating.{Operates}
@@ -13,7 +13,7 @@ abbrev pub invariant-trim : goal.invariant-trim
 invariant-trim g l =
     let t = g.T.Turns in
     let p = g.T.Law.Rules in
-    let may = g.C.Chooser.may in
+    let ch = g.C.Chooser in
     record {
       later : Later p.law (t.seen l.fn.turns) (t.seen l.turns);
       who : t.who l.turns ≡ t.who l.fn.turns;
@@ -21,11 +21,10 @@ invariant-trim g l =
       tail : l.known.tail ≡ l.fn.known.tail;
       rises : (last_segment l.fn.known.chain).id ≤ (last_segment l.known.chain).id;
       first : (t.seen l.turns ≡ t.seen l.fn.turns) ⊎ (l.min < trim_of (state_of (t.seen l.turns)));
-      words : SaysOnly (may l.fn.chooser) (t.who l.fn.turns) (t.seen l.fn.turns) (t.seen l.turns);
+      draws : SaysDrawn ch.gives (t.who l.fn.turns) (ch.at l.fn.chooser) (t.seen l.fn.turns) (ch.at l.chooser) (t.seen l.turns);
       unsealed : SealsNone (t.who l.fn.turns) (t.seen l.fn.turns) (t.seen l.turns);
       calm : CalmSince (t.who l.fn.turns) (t.seen l.fn.turns) (t.seen l.turns);
       closes : Operates (t.who l.fn.turns) None None (t.seen l.fn.turns) (t.seen l.turns);
-      same : may l.chooser ≡ may l.fn.chooser;
     }
 
 abbrev pub decreases-trim : goal.decreases-trim

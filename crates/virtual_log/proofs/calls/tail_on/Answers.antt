@@ -9,7 +9,7 @@ use Rattle.virtual_log.proofs.OneTurn.{later_trans, cause_since, later_refl}
 use Rattle.virtual_log.proofs.Appending.{above_since}
 use Rattle.virtual_log.proofs.Going.{last_there, there_later, goes_later, goes_further, goes_behind, fewer}
 use Rattle.virtual_log.proofs.Holding.{above_known}
-use Rattle.virtual_log.proofs.Saying.{says_refl, says_on}
+use Rattle.virtual_log.proofs.Saying.{drawn_refl, drawn_then, draws_then}
 use Rattle.virtual_log.proofs.Sealing.{seals_refl, seals_then}
 use Rattle.virtual_log.proofs.Calming.{calm_refl, calm_then}
 use Rattle.virtual_log.proofs.Operating.{operates_refl, operates_then, left_then}
@@ -189,14 +189,6 @@ segment-preserved g c =
       above = λ pos new later x.
           i.above pos new (later_trans p.law now end new (later_trans p.law now mid end to_mid from.later) later)
           (above_since p.law (t.who c.args.turns.now) pos now mid end new (subst (λ w. FirstTurn w now mid) i.who first) from.later later x);
-      words =
-          let who = t.who c.args.turns.now in
-          let old = t.seen c.args.turns.now in
-          let may = g.C.Chooser.may in
-          let words = may c.args.chooser.now in
-          says_on words (may c.find_tail.new.chooser) who (t.who c.find_tail.new.turns) old (t.seen c.find_tail.new.turns) (t.seen c.chain_behind.new.turns) (c.in_ok-tail.ensures.same ∙ i.same) (c.in_ok-tail.ensures.who ∙ i.who)
-          (says_on words (may l.chooser) who (t.who l.turns) old now (t.seen c.find_tail.new.turns) i.same i.who i.words c.in_ok-tail.ensures.words)
-          c.in_ok-version.ensures.words;
       unsealed =
           let who = t.who c.args.turns.now in
           let old = t.seen c.args.turns.now in
@@ -209,46 +201,11 @@ segment-preserved g c =
           let who = t.who c.args.turns.now in
           let old = t.seen c.args.turns.now in
           operates_then who (t.who c.find_tail.new.turns) old (t.seen c.find_tail.new.turns) (t.seen c.chain_behind.new.turns) (c.in_ok-tail.ensures.who ∙ i.who) (operates_then who (t.who l.turns) old now (t.seen c.find_tail.new.turns) i.who i.closes c.in_ok-tail.ensures.closes) c.in_ok-version.ensures.closes;
-      same = from.same ∙ (c.in_ok-tail.ensures.same ∙ i.same);
+      draws =
+          let who = t.who c.args.turns.now in
+          let old = t.seen c.args.turns.now in
+          drawn_then who (t.who c.find_tail.new.turns) old (t.seen c.find_tail.new.turns) (t.seen c.chain_behind.new.turns) (c.in_ok-tail.ensures.who ∙ i.who) (drawn_then who (t.who l.turns) old now (t.seen c.find_tail.new.turns) i.who i.draws c.in_ok-tail.ensures.draws) c.in_ok-version.ensures.draws;
     }
-
-pub returns-in_err-tail-clause-words : goal.returns-in_err-tail-clause-words
-returns-in_err-tail-clause-words g c =
-    let t = g.T.Turns in
-    let who = t.who c.args.turns.now in
-    let old = t.seen c.args.turns.now in
-    let may = g.C.Chooser.may in
-    let words = may c.args.chooser.now in
-    let l = c.segment in
-    let i = l.invariant in
-    let now = t.seen l.turns in
-    says_on words (may l.chooser) who (t.who l.turns) old now (t.seen c.find_tail.new.turns) i.same i.who i.words c.in_err-tail.ensures.words
-
-pub returns-in-Open-clause-words : goal.returns-in-Open-clause-words
-returns-in-Open-clause-words g c =
-    let t = g.T.Turns in
-    let who = t.who c.args.turns.now in
-    let old = t.seen c.args.turns.now in
-    let may = g.C.Chooser.may in
-    let words = may c.args.chooser.now in
-    let l = c.segment in
-    let i = l.invariant in
-    let now = t.seen l.turns in
-    says_on words (may l.chooser) who (t.who l.turns) old now (t.seen c.find_tail.new.turns) i.same i.who i.words c.in_ok-tail.ensures.words
-
-pub returns-in_err-version-clause-words : goal.returns-in_err-version-clause-words
-returns-in_err-version-clause-words g c =
-    let t = g.T.Turns in
-    let who = t.who c.args.turns.now in
-    let old = t.seen c.args.turns.now in
-    let may = g.C.Chooser.may in
-    let words = may c.args.chooser.now in
-    let l = c.segment in
-    let i = l.invariant in
-    let now = t.seen l.turns in
-    says_on words (may c.find_tail.new.chooser) who (t.who c.find_tail.new.turns) old (t.seen c.find_tail.new.turns) (t.seen c.chain_behind.new.turns) (c.in_ok-tail.ensures.same ∙ i.same) (c.in_ok-tail.ensures.who ∙ i.who)
-    (says_on words (may l.chooser) who (t.who l.turns) old now (t.seen c.find_tail.new.turns) i.same i.who i.words c.in_ok-tail.ensures.words)
-    c.in_err-version.ensures.words
 
 pub segment-init : goal.segment-init
 segment-init g c =
@@ -262,11 +219,10 @@ segment-init g c =
       tail = refl;
       rises = omega arith;
       above = λ pos new later x. x;
-      words = says_refl (g.C.Chooser.may c.args.chooser.now) (t.who c.args.turns.now) old;
       unsealed = seals_refl (t.who c.args.turns.now) old;
       calm = calm_refl (t.who c.args.turns.now) old;
       closes = operates_refl (t.who c.args.turns.now) None old;
-      same = refl;
+      draws = drawn_refl (t.who c.args.turns.now) old;
     }
 
 pub returns-in_err-tail-clause-unsealed : goal.returns-in_err-tail-clause-unsealed
@@ -384,3 +340,35 @@ returns-in-Open-clause-rises g c = c.segment.invariant.rises
 
 pub returns-in_err-version-clause-rises : goal.returns-in_err-version-clause-rises
 returns-in_err-version-clause-rises g c = c.segment.invariant.rises
+
+pub returns-in_err-tail-clause-draws : goal.returns-in_err-tail-clause-draws
+returns-in_err-tail-clause-draws g c =
+    let t = g.T.Turns in
+    let who = t.who c.args.turns.now in
+    let old = t.seen c.args.turns.now in
+    let l = c.segment in
+    let i = l.invariant in
+    let now = t.seen l.turns in
+    let r = err_from_is_err_and c.from_residual.result c.from_residual.ensures.1 in
+    rw (r.1, r.2) (draws_then _ who (t.who l.turns) old now (t.seen c.find_tail.new.turns) c.in_err-tail.field-0.0 i.who i.draws c.in_err-tail.ensures.draws)
+
+pub returns-in-Open-clause-draws : goal.returns-in-Open-clause-draws
+returns-in-Open-clause-draws g c =
+    let t = g.T.Turns in
+    let who = t.who c.args.turns.now in
+    let old = t.seen c.args.turns.now in
+    let l = c.segment in
+    let i = l.invariant in
+    let now = t.seen l.turns in
+    drawn_then who (t.who l.turns) old now (t.seen c.find_tail.new.turns) i.who i.draws c.in_ok-tail.ensures.draws
+
+pub returns-in_err-version-clause-draws : goal.returns-in_err-version-clause-draws
+returns-in_err-version-clause-draws g c =
+    let t = g.T.Turns in
+    let who = t.who c.args.turns.now in
+    let old = t.seen c.args.turns.now in
+    let l = c.segment in
+    let i = l.invariant in
+    let now = t.seen l.turns in
+    let r = err_from_is_err_and c.from_residual-in_err-version.result c.from_residual-in_err-version.ensures.1 in
+    rw (r.1, r.2) (draws_then _ who (t.who c.find_tail.new.turns) old (t.seen c.find_tail.new.turns) (t.seen c.chain_behind.new.turns) c.in_err-version.field-0.0 (c.in_ok-tail.ensures.who ∙ i.who) (drawn_then who (t.who l.turns) old now (t.seen c.find_tail.new.turns) i.who i.draws c.in_ok-tail.ensures.draws) c.in_err-version.ensures.draws)

@@ -9,7 +9,7 @@ use Rattle.virtual_log.proofs.Going.{last_there, goes_later, goes_now, last_with
 use Rattle.virtual_log.proofs.Writing.{wrote_trans, wrote_by}
 use Rattle.virtual_log.proofs.Sealing.{seals_as, only_none, at_then, at_same, after_look}
 use Rattle.virtual_log.proofs.Closing.{closed_since, follows_closed}
-use Rattle.virtual_log.proofs.Saying.{says_then, says_on}
+use Rattle.virtual_log.proofs.Saying.{none_drawn, drawn_then, draws_any, draws_then}
 use Rattle.virtual_log.proofs.Calming.{calm_then}
 use Rattle.virtual_log.proofs.Operating.{operates_then, left_then, closes_none}
 use Rattle.virtual_log.proofs.Rising.{rises_now}
@@ -387,71 +387,6 @@ returns-clause-later g c =
     (later_trans p.law old b d (later_trans p.law old a b c.in_ok-version.ensures.later c.in_ok-seal.ensures.later) c.in_ok-length.ensures.later)
     c.in_ok-closed.ensures.later
 
-pub returns-in_err-version-clause-words : goal.returns-in_err-version-clause-words
-returns-in_err-version-clause-words g c = c.in_err-version.ensures.silent (g.C.Chooser.may c.args.chooser.now)
-
-pub returns-then-last-shelf_len-clause-words : goal.returns-then-last-shelf_len-clause-words
-returns-then-last-shelf_len-clause-words g c = c.in_ok-version.ensures.silent (g.C.Chooser.may c.args.chooser.now)
-
-pub returns-in_err-seal-clause-words : goal.returns-in_err-seal-clause-words
-returns-in_err-seal-clause-words g c =
-    let t = g.T.Turns in
-    let who = t.who c.args.turns.now in
-    let old = t.seen c.args.turns.now in
-    let may = g.C.Chooser.may in
-    let words = may c.args.chooser.now in
-    let a = t.seen c.look.new.turns in
-    let first = c.in_ok-version.ensures in
-    says_then words who (t.who c.look.new.turns) old a (t.seen c.seal.new.turns) first.who (first.silent words) c.in_err-seal.ensures.words
-
-pub returns-in_err-length-clause-words : goal.returns-in_err-length-clause-words
-returns-in_err-length-clause-words g c =
-    let t = g.T.Turns in
-    let who = t.who c.args.turns.now in
-    let old = t.seen c.args.turns.now in
-    let may = g.C.Chooser.may in
-    let words = may c.args.chooser.now in
-    let a = t.seen c.look.new.turns in
-    let first = c.in_ok-version.ensures in
-    let b = t.seen c.seal.new.turns in
-    let second = c.in_ok-seal.ensures in
-    let to_b = says_then words who (t.who c.look.new.turns) old a b first.who (first.silent words) second.words in
-    says_on words (may c.seal.new.chooser) who (t.who c.seal.new.turns) old b (t.seen c.find_tail.new.turns) second.same (second.who ∙ first.who) to_b c.in_err-length.ensures.words
-
-pub returns-in_err-closed-clause-words : goal.returns-in_err-closed-clause-words
-returns-in_err-closed-clause-words g c =
-    let t = g.T.Turns in
-    let who = t.who c.args.turns.now in
-    let old = t.seen c.args.turns.now in
-    let may = g.C.Chooser.may in
-    let words = may c.args.chooser.now in
-    let a = t.seen c.look.new.turns in
-    let first = c.in_ok-version.ensures in
-    let b = t.seen c.seal.new.turns in
-    let second = c.in_ok-seal.ensures in
-    let to_b = says_then words who (t.who c.look.new.turns) old a b first.who (first.silent words) second.words in
-    let d = t.seen c.find_tail.new.turns in
-    let third = c.in_ok-length.ensures in
-    let to_d = says_on words (may c.seal.new.chooser) who (t.who c.seal.new.turns) old b d second.same (second.who ∙ first.who) to_b third.words in
-    says_then words who (t.who c.find_tail.new.turns) old d (t.seen c.close_at.new.turns) (third.who ∙ (second.who ∙ first.who)) to_d (c.in_err-closed.ensures.silent words)
-
-pub returns-clause-words : goal.returns-clause-words
-returns-clause-words g c =
-    let t = g.T.Turns in
-    let who = t.who c.args.turns.now in
-    let old = t.seen c.args.turns.now in
-    let may = g.C.Chooser.may in
-    let words = may c.args.chooser.now in
-    let a = t.seen c.look.new.turns in
-    let first = c.in_ok-version.ensures in
-    let b = t.seen c.seal.new.turns in
-    let second = c.in_ok-seal.ensures in
-    let to_b = says_then words who (t.who c.look.new.turns) old a b first.who (first.silent words) second.words in
-    let d = t.seen c.find_tail.new.turns in
-    let third = c.in_ok-length.ensures in
-    let to_d = says_on words (may c.seal.new.chooser) who (t.who c.seal.new.turns) old b d second.same (second.who ∙ first.who) to_b third.words in
-    says_then words who (t.who c.find_tail.new.turns) old d (t.seen c.close_at.new.turns) (third.who ∙ (second.who ∙ first.who)) to_d (c.in_ok-closed.ensures.silent words)
-
 pub returns-in_err-version-clause-memory : goal.returns-in_err-version-clause-memory
 returns-in_err-version-clause-memory g c =
     let r = err_from_is_err_and c.from_residual.result c.from_residual.ensures.1 in
@@ -617,3 +552,62 @@ returns-clause-rises g c =
     let first = c.in_ok-version.ensures in
     let up = rises_now p.law (t.who c.args.turns.now) k.version k.tail c.in_ok-version.version k.chain c.in_ok-version.chain (t.seen c.args.turns.now) (t.seen c.look.new.turns) first.later c.requires.goes_by first.ok in
     omega (arith, up, c.in_ok-closed.ensures.rises)
+
+pub returns-in_err-version-clause-draws : goal.returns-in_err-version-clause-draws
+returns-in_err-version-clause-draws g c = draws_any _ _ _ c.from_residual.result (none_drawn c.in_err-version.ensures.silent)
+
+pub returns-then-last-shelf_len-clause-draws : goal.returns-then-last-shelf_len-clause-draws
+returns-then-last-shelf_len-clause-draws g c = (none_drawn c.in_ok-version.ensures.silent)
+
+pub returns-in_err-seal-clause-draws : goal.returns-in_err-seal-clause-draws
+returns-in_err-seal-clause-draws g c =
+    let t = g.T.Turns in
+    let who = t.who c.args.turns.now in
+    let old = t.seen c.args.turns.now in
+    let a = t.seen c.look.new.turns in
+    let first = c.in_ok-version.ensures in
+    let r = err_from_is_err_and c.from_residual-in_err-seal.result c.from_residual-in_err-seal.ensures.1 in
+    rw (r.1, r.2) (draws_then _ who (t.who c.look.new.turns) old a (t.seen c.seal.new.turns) c.in_err-seal.field-0.0 first.who (none_drawn first.silent) c.in_err-seal.ensures.draws)
+
+pub returns-in_err-length-clause-draws : goal.returns-in_err-length-clause-draws
+returns-in_err-length-clause-draws g c =
+    let t = g.T.Turns in
+    let who = t.who c.args.turns.now in
+    let old = t.seen c.args.turns.now in
+    let a = t.seen c.look.new.turns in
+    let first = c.in_ok-version.ensures in
+    let b = t.seen c.seal.new.turns in
+    let second = c.in_ok-seal.ensures in
+    let to_b = drawn_then who (t.who c.look.new.turns) old a b first.who (none_drawn first.silent) second.draws in
+    let r = err_from_is_err_and c.from_residual-in_err-length.result c.from_residual-in_err-length.ensures.1 in
+    rw (r.1, r.2) (draws_then _ who (t.who c.seal.new.turns) old b (t.seen c.find_tail.new.turns) c.in_err-length.field-0.0 (second.who ∙ first.who) to_b c.in_err-length.ensures.draws)
+
+pub returns-in_err-closed-clause-draws : goal.returns-in_err-closed-clause-draws
+returns-in_err-closed-clause-draws g c =
+    let t = g.T.Turns in
+    let who = t.who c.args.turns.now in
+    let old = t.seen c.args.turns.now in
+    let a = t.seen c.look.new.turns in
+    let first = c.in_ok-version.ensures in
+    let b = t.seen c.seal.new.turns in
+    let second = c.in_ok-seal.ensures in
+    let to_b = drawn_then who (t.who c.look.new.turns) old a b first.who (none_drawn first.silent) second.draws in
+    let d = t.seen c.find_tail.new.turns in
+    let third = c.in_ok-length.ensures in
+    let to_d = drawn_then who (t.who c.seal.new.turns) old b d (second.who ∙ first.who) to_b third.draws in
+    draws_any _ _ _ c.from_residual-in_err-closed.result (drawn_then who (t.who c.find_tail.new.turns) old d (t.seen c.close_at.new.turns) (third.who ∙ (second.who ∙ first.who)) to_d (none_drawn c.in_err-closed.ensures.silent))
+
+pub returns-clause-draws : goal.returns-clause-draws
+returns-clause-draws g c =
+    let t = g.T.Turns in
+    let who = t.who c.args.turns.now in
+    let old = t.seen c.args.turns.now in
+    let a = t.seen c.look.new.turns in
+    let first = c.in_ok-version.ensures in
+    let b = t.seen c.seal.new.turns in
+    let second = c.in_ok-seal.ensures in
+    let to_b = drawn_then who (t.who c.look.new.turns) old a b first.who (none_drawn first.silent) second.draws in
+    let d = t.seen c.find_tail.new.turns in
+    let third = c.in_ok-length.ensures in
+    let to_d = drawn_then who (t.who c.seal.new.turns) old b d (second.who ∙ first.who) to_b third.draws in
+    drawn_then who (t.who c.find_tail.new.turns) old d (t.seen c.close_at.new.turns) (third.who ∙ (second.who ∙ first.who)) to_d (none_drawn c.in_ok-closed.ensures.silent)

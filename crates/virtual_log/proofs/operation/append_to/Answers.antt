@@ -12,7 +12,7 @@ use Rattle.virtual_log.specs.declared.fault.Fault.TheVariants as fault
 use Rattle.virtual_log.specs.Attempts.{Attempts, refused_by}
 use Rattle.virtual_log.proofs.OneTurn.{own_by, lack_cause, cause_since, first_later}
 use Rattle.virtual_log.proofs.Appending.{may_append, started_within, placed_ok, sealed_ok}
-use Rattle.virtual_log.proofs.Saying.{says_refl, says_then}
+use Rattle.virtual_log.proofs.Saying.{drawn_refl, none_drawn, drawn_then, draws_any, spares_then}
 use Rattle.virtual_log.proofs.Sealing.{seals_refl, seals_then}
 use Rattle.virtual_log.proofs.Calming.{calm_refl, calm_then}
 use Rattle.virtual_log.proofs.Answering.{append_answers}
@@ -137,38 +137,6 @@ pub returns-in-Sealed-clause-retry : goal.returns-in-Sealed-clause-retry
 returns-in-Sealed-clause-retry g c =
     let t = g.T.Turns in
     first_later (t.who c.args.turns.now) (t.seen c.args.turns.now) (t.seen c.begin.new.turns) (t.seen c.carry_on.new.turns) c.in_ok-place.ensures.later.more c.in_ok-place.ensures.later.seen c.in_ok-ticket.ensures.ok.first
-
-pub returns-in_err-copy-clause-words : goal.returns-in_err-copy-clause-words
-returns-in_err-copy-clause-words g c =
-    let t = g.T.Turns in
-    says_refl (g.C.Chooser.may c.args.chooser.now) (t.who c.args.turns.now) (t.seen c.args.turns.now)
-
-pub returns-in_err-ticket-clause-words : goal.returns-in_err-ticket-clause-words
-returns-in_err-ticket-clause-words g c = c.in_err-ticket.ensures.silent (g.C.Chooser.may c.args.chooser.now)
-
-pub returns-in_err-place-clause-words : goal.returns-in_err-place-clause-words
-returns-in_err-place-clause-words g c =
-    let t = g.T.Turns in
-    let words = g.C.Chooser.may c.args.chooser.now in
-    says_then words (t.who c.args.turns.now) (t.who c.begin.new.turns) (t.seen c.args.turns.now) (t.seen c.begin.new.turns) (t.seen c.carry_on.new.turns) c.in_ok-ticket.ensures.who (c.in_ok-ticket.ensures.silent words) c.in_err-place.ensures.words
-
-pub returns-in-Placed-clause-words : goal.returns-in-Placed-clause-words
-returns-in-Placed-clause-words g c =
-    let t = g.T.Turns in
-    let words = g.C.Chooser.may c.args.chooser.now in
-    says_then words (t.who c.args.turns.now) (t.who c.begin.new.turns) (t.seen c.args.turns.now) (t.seen c.begin.new.turns) (t.seen c.carry_on.new.turns) c.in_ok-ticket.ensures.who (c.in_ok-ticket.ensures.silent words) c.in_ok-place.ensures.words
-
-pub returns-in-Sealed-clause-words : goal.returns-in-Sealed-clause-words
-returns-in-Sealed-clause-words g c =
-    let t = g.T.Turns in
-    let words = g.C.Chooser.may c.args.chooser.now in
-    says_then words (t.who c.args.turns.now) (t.who c.begin.new.turns) (t.seen c.args.turns.now) (t.seen c.begin.new.turns) (t.seen c.carry_on.new.turns) c.in_ok-ticket.ensures.who (c.in_ok-ticket.ensures.silent words) c.in_ok-place.ensures.words
-
-pub returns-in-NoQuorum-clause-words : goal.returns-in-NoQuorum-clause-words
-returns-in-NoQuorum-clause-words g c =
-    let t = g.T.Turns in
-    let words = g.C.Chooser.may c.args.chooser.now in
-    says_then words (t.who c.args.turns.now) (t.who c.begin.new.turns) (t.seen c.args.turns.now) (t.seen c.begin.new.turns) (t.seen c.carry_on.new.turns) c.in_ok-ticket.ensures.who (c.in_ok-ticket.ensures.silent words) c.in_ok-place.ensures.words
 
 pub returns-in_err-copy-clause-unsealed : goal.returns-in_err-copy-clause-unsealed
 returns-in_err-copy-clause-unsealed g c =
@@ -296,3 +264,30 @@ returns-in-NoQuorum-clause-at_most g c =
     let t = g.T.Turns in
     inr (attempts_then (t.who c.args.turns.now) (t.who c.begin.new.turns) c.args.entry.now (t.seen c.args.turns.now) (t.seen c.begin.new.turns) (t.seen c.carry_on.new.turns) c.in_ok-ticket.ensures.who (c.in_ok-ticket.ensures.begun c.args.entry.now c.in_ok-copy.ensures.cases)
     (one_stays (t.who c.begin.new.turns) c.args.entry.now (t.seen c.begin.new.turns) (t.seen c.carry_on.new.turns) (subst (λ a. Attempts (t.who c.begin.new.turns) c.args.entry.now (refused_by a) 0 (t.seen c.begin.new.turns) (t.seen c.carry_on.new.turns)) c.in-NoQuorum.is (c.in_ok-place.ensures.refused c.args.entry.now))))
+
+pub returns-in_err-copy-clause-draws : goal.returns-in_err-copy-clause-draws
+returns-in_err-copy-clause-draws g c = draws_any _ _ _ c.from_residual.result (drawn_refl _ _)
+
+pub returns-in_err-ticket-clause-draws : goal.returns-in_err-ticket-clause-draws
+returns-in_err-ticket-clause-draws g c = draws_any _ _ _ c.from_residual-in_err-ticket.result (none_drawn c.in_err-ticket.ensures.silent)
+
+pub returns-in_err-place-clause-draws : goal.returns-in_err-place-clause-draws
+returns-in_err-place-clause-draws g c =
+    let t = g.T.Turns in
+    let r = err_from_is_err_and c.from_residual-in_err-place.result c.from_residual-in_err-place.ensures.1 in
+    rw (r.1, r.2) (spares_then (t.who c.args.turns.now) (t.who c.begin.new.turns) (t.seen c.args.turns.now) (t.seen c.begin.new.turns) (t.seen c.carry_on.new.turns) c.in_ok-ticket.ensures.who (none_drawn c.in_ok-ticket.ensures.silent) c.in_err-place.ensures.spares)
+
+pub returns-in-Placed-clause-draws : goal.returns-in-Placed-clause-draws
+returns-in-Placed-clause-draws g c =
+    let t = g.T.Turns in
+    drawn_then (t.who c.args.turns.now) (t.who c.begin.new.turns) (t.seen c.args.turns.now) (t.seen c.begin.new.turns) (t.seen c.carry_on.new.turns) c.in_ok-ticket.ensures.who (none_drawn c.in_ok-ticket.ensures.silent) c.in_ok-place.ensures.draws
+
+pub returns-in-Sealed-clause-draws : goal.returns-in-Sealed-clause-draws
+returns-in-Sealed-clause-draws g c =
+    let t = g.T.Turns in
+    drawn_then (t.who c.args.turns.now) (t.who c.begin.new.turns) (t.seen c.args.turns.now) (t.seen c.begin.new.turns) (t.seen c.carry_on.new.turns) c.in_ok-ticket.ensures.who (none_drawn c.in_ok-ticket.ensures.silent) c.in_ok-place.ensures.draws
+
+pub returns-in-NoQuorum-clause-draws : goal.returns-in-NoQuorum-clause-draws
+returns-in-NoQuorum-clause-draws g c =
+    let t = g.T.Turns in
+    drawn_then (t.who c.args.turns.now) (t.who c.begin.new.turns) (t.seen c.args.turns.now) (t.seen c.begin.new.turns) (t.seen c.carry_on.new.turns) c.in_ok-ticket.ensures.who (none_drawn c.in_ok-ticket.ensures.silent) c.in_ok-place.ensures.draws

@@ -11,7 +11,7 @@ use Rattle.virtual_log.proofs.OneTurn.{own_by, lack_cause, cause_since, first_la
 use Rattle.virtual_log.proofs.Appending.{may_tail, started_within, tail_ok, end_ok, shut_ok, never_open}
 use Rattle.virtual_log.proofs.Writing.{wrote_trans, wrote_by}
 use Rattle.virtual_log.proofs.Sealing.{seals_trans, seals_as}
-use Rattle.virtual_log.proofs.Saying.{says_then}
+use Rattle.virtual_log.proofs.Saying.{none_drawn, drawn_then, draws_any, spares_then}
 use Rattle.virtual_log.proofs.Calming.{calm_then}
 use Rattle.virtual_log.proofs.Answering.{tail_answers}
 use Rattle.std.proofs.lemmas.Result.{err_from_is_err_and}
@@ -139,33 +139,6 @@ returns-in-NoQuorum-clause-unsealed g c =
     seals_trans (t.who c.args.turns.now) (t.seen c.args.turns.now) (t.seen c.begin.new.turns) (t.seen c.carry_on.new.turns) (c.in_ok-ticket.ensures.unsealed refl)
     (seals_as _ _ _ _ c.in_ok-ticket.ensures.who c.in_ok-length.ensures.unsealed)
 
-pub returns-in_err-ticket-clause-words : goal.returns-in_err-ticket-clause-words
-returns-in_err-ticket-clause-words g c = c.in_err-ticket.ensures.silent (g.C.Chooser.may c.args.chooser.now)
-
-pub returns-in_err-length-clause-words : goal.returns-in_err-length-clause-words
-returns-in_err-length-clause-words g c =
-    let t = g.T.Turns in
-    let words = g.C.Chooser.may c.args.chooser.now in
-    says_then words (t.who c.args.turns.now) (t.who c.begin.new.turns) (t.seen c.args.turns.now) (t.seen c.begin.new.turns) (t.seen c.carry_on.new.turns) c.in_ok-ticket.ensures.who (c.in_ok-ticket.ensures.silent words) c.in_err-length.ensures.words
-
-pub returns-in-OpenTail-clause-words : goal.returns-in-OpenTail-clause-words
-returns-in-OpenTail-clause-words g c =
-    let t = g.T.Turns in
-    let words = g.C.Chooser.may c.args.chooser.now in
-    says_then words (t.who c.args.turns.now) (t.who c.begin.new.turns) (t.seen c.args.turns.now) (t.seen c.begin.new.turns) (t.seen c.carry_on.new.turns) c.in_ok-ticket.ensures.who (c.in_ok-ticket.ensures.silent words) c.in_ok-length.ensures.words
-
-pub returns-in-SealedTail-clause-words : goal.returns-in-SealedTail-clause-words
-returns-in-SealedTail-clause-words g c =
-    let t = g.T.Turns in
-    let words = g.C.Chooser.may c.args.chooser.now in
-    says_then words (t.who c.args.turns.now) (t.who c.begin.new.turns) (t.seen c.args.turns.now) (t.seen c.begin.new.turns) (t.seen c.carry_on.new.turns) c.in_ok-ticket.ensures.who (c.in_ok-ticket.ensures.silent words) c.in_ok-length.ensures.words
-
-pub returns-in-NoQuorum-clause-words : goal.returns-in-NoQuorum-clause-words
-returns-in-NoQuorum-clause-words g c =
-    let t = g.T.Turns in
-    let words = g.C.Chooser.may c.args.chooser.now in
-    says_then words (t.who c.args.turns.now) (t.who c.begin.new.turns) (t.seen c.args.turns.now) (t.seen c.begin.new.turns) (t.seen c.carry_on.new.turns) c.in_ok-ticket.ensures.who (c.in_ok-ticket.ensures.silent words) c.in_ok-length.ensures.words
-
 pub returns-in_err-ticket-clause-memory : goal.returns-in_err-ticket-clause-memory
 returns-in_err-ticket-clause-memory g c =
     let r = err_from_is_err_and c.from_residual.result c.from_residual.ensures.1 in
@@ -245,3 +218,27 @@ returns-in-NoQuorum-clause-idle g c =
     let t = g.T.Turns in
     idle_trans (t.who c.args.turns.now) (t.seen c.args.turns.now) (t.seen c.begin.new.turns) (t.seen c.carry_on.new.turns) (λ entry. c.in_ok-ticket.ensures.begun entry tt)
     (idle_as _ _ _ _ c.in_ok-ticket.ensures.who (subst (λ a. (entry : Entry) → Attempts (t.who c.begin.new.turns) entry (refused_by a) 0 (t.seen c.begin.new.turns) (t.seen c.carry_on.new.turns)) c.in-NoQuorum.is c.in_ok-length.ensures.refused))
+
+pub returns-in-OpenTail-clause-draws : goal.returns-in-OpenTail-clause-draws
+returns-in-OpenTail-clause-draws g c =
+    let t = g.T.Turns in
+    drawn_then (t.who c.args.turns.now) (t.who c.begin.new.turns) (t.seen c.args.turns.now) (t.seen c.begin.new.turns) (t.seen c.carry_on.new.turns) c.in_ok-ticket.ensures.who (none_drawn c.in_ok-ticket.ensures.silent) c.in_ok-length.ensures.draws
+
+pub returns-in-SealedTail-clause-draws : goal.returns-in-SealedTail-clause-draws
+returns-in-SealedTail-clause-draws g c =
+    let t = g.T.Turns in
+    drawn_then (t.who c.args.turns.now) (t.who c.begin.new.turns) (t.seen c.args.turns.now) (t.seen c.begin.new.turns) (t.seen c.carry_on.new.turns) c.in_ok-ticket.ensures.who (none_drawn c.in_ok-ticket.ensures.silent) c.in_ok-length.ensures.draws
+
+pub returns-in-NoQuorum-clause-draws : goal.returns-in-NoQuorum-clause-draws
+returns-in-NoQuorum-clause-draws g c =
+    let t = g.T.Turns in
+    drawn_then (t.who c.args.turns.now) (t.who c.begin.new.turns) (t.seen c.args.turns.now) (t.seen c.begin.new.turns) (t.seen c.carry_on.new.turns) c.in_ok-ticket.ensures.who (none_drawn c.in_ok-ticket.ensures.silent) c.in_ok-length.ensures.draws
+
+pub returns-in_err-ticket-clause-draws : goal.returns-in_err-ticket-clause-draws
+returns-in_err-ticket-clause-draws g c = draws_any _ _ _ c.from_residual.result (none_drawn c.in_err-ticket.ensures.silent)
+
+pub returns-in_err-length-clause-draws : goal.returns-in_err-length-clause-draws
+returns-in_err-length-clause-draws g c =
+    let t = g.T.Turns in
+    let r = err_from_is_err_and c.from_residual-in_err-length.result c.from_residual-in_err-length.ensures.1 in
+    rw (r.1, r.2) (spares_then (t.who c.args.turns.now) (t.who c.begin.new.turns) (t.seen c.args.turns.now) (t.seen c.begin.new.turns) (t.seen c.carry_on.new.turns) c.in_ok-ticket.ensures.who (none_drawn c.in_ok-ticket.ensures.silent) c.in_err-length.ensures.spares)

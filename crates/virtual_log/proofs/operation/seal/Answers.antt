@@ -9,7 +9,7 @@ use Rattle.virtual_log.proofs.OneTurn.{own_by, lack_cause, cause_since}
 use Rattle.virtual_log.proofs.Appending.{sealing_ok}
 use Rattle.virtual_log.proofs.Writing.{wrote_trans, wrote_by}
 use Rattle.virtual_log.proofs.Sealing.{seals_as, at_then}
-use Rattle.virtual_log.proofs.Saying.{says_then}
+use Rattle.virtual_log.proofs.Saying.{none_drawn, drawn_then, draws_any, spares_then}
 use Rattle.virtual_log.proofs.Calming.{calm_then}
 use Rattle.virtual_log.proofs.Answering.{seal_answers}
 use Rattle.std.proofs.lemmas.Result.{err_from_is_err_and}
@@ -71,27 +71,6 @@ returns-in-NoQuorum-clause-seals g c =
     at_then (t.who c.args.turns.now) c.args.id (t.seen c.args.turns.now) (t.seen c.begin.new.turns) (t.seen c.carry_on.new.turns) c.in_ok-ticket.ensures.seals
     (seals_as _ _ _ _ c.in_ok-ticket.ensures.who c.in_ok-carry_on.ensures.unsealed)
 
-pub returns-in_err-ticket-clause-words : goal.returns-in_err-ticket-clause-words
-returns-in_err-ticket-clause-words g c = c.in_err-ticket.ensures.silent (g.C.Chooser.may c.args.chooser.now)
-
-pub returns-in_err-carry_on-clause-words : goal.returns-in_err-carry_on-clause-words
-returns-in_err-carry_on-clause-words g c =
-    let t = g.T.Turns in
-    let words = g.C.Chooser.may c.args.chooser.now in
-    says_then words (t.who c.args.turns.now) (t.who c.begin.new.turns) (t.seen c.args.turns.now) (t.seen c.begin.new.turns) (t.seen c.carry_on.new.turns) c.in_ok-ticket.ensures.who (c.in_ok-ticket.ensures.silent words) c.in_err-carry_on.ensures.words
-
-pub returns-in-SealDone-clause-words : goal.returns-in-SealDone-clause-words
-returns-in-SealDone-clause-words g c =
-    let t = g.T.Turns in
-    let words = g.C.Chooser.may c.args.chooser.now in
-    says_then words (t.who c.args.turns.now) (t.who c.begin.new.turns) (t.seen c.args.turns.now) (t.seen c.begin.new.turns) (t.seen c.carry_on.new.turns) c.in_ok-ticket.ensures.who (c.in_ok-ticket.ensures.silent words) c.in_ok-carry_on.ensures.words
-
-pub returns-in-NoQuorum-clause-words : goal.returns-in-NoQuorum-clause-words
-returns-in-NoQuorum-clause-words g c =
-    let t = g.T.Turns in
-    let words = g.C.Chooser.may c.args.chooser.now in
-    says_then words (t.who c.args.turns.now) (t.who c.begin.new.turns) (t.seen c.args.turns.now) (t.seen c.begin.new.turns) (t.seen c.carry_on.new.turns) c.in_ok-ticket.ensures.who (c.in_ok-ticket.ensures.silent words) c.in_ok-carry_on.ensures.words
-
 pub returns-in_err-ticket-clause-memory : goal.returns-in_err-ticket-clause-memory
 returns-in_err-ticket-clause-memory g c =
     let r = err_from_is_err_and c.from_residual.result c.from_residual.ensures.1 in
@@ -134,3 +113,22 @@ pub returns-in-NoQuorum-clause-closes : goal.returns-in-NoQuorum-clause-closes
 returns-in-NoQuorum-clause-closes g c =
     let t = g.T.Turns in
     operates_then (t.who c.args.turns.now) (t.who c.begin.new.turns) (t.seen c.args.turns.now) (t.seen c.begin.new.turns) (t.seen c.carry_on.new.turns) c.in_ok-ticket.ensures.who c.in_ok-ticket.ensures.opens c.in_ok-carry_on.ensures.closes
+
+pub returns-in_err-ticket-clause-draws : goal.returns-in_err-ticket-clause-draws
+returns-in_err-ticket-clause-draws g c = draws_any _ _ _ c.from_residual.result (none_drawn c.in_err-ticket.ensures.silent)
+
+pub returns-in_err-carry_on-clause-draws : goal.returns-in_err-carry_on-clause-draws
+returns-in_err-carry_on-clause-draws g c =
+    let t = g.T.Turns in
+    let r = err_from_is_err_and c.from_residual-in_err-carry_on.result c.from_residual-in_err-carry_on.ensures.1 in
+    rw (r.1, r.2) (spares_then (t.who c.args.turns.now) (t.who c.begin.new.turns) (t.seen c.args.turns.now) (t.seen c.begin.new.turns) (t.seen c.carry_on.new.turns) c.in_ok-ticket.ensures.who (none_drawn c.in_ok-ticket.ensures.silent) c.in_err-carry_on.ensures.spares)
+
+pub returns-in-SealDone-clause-draws : goal.returns-in-SealDone-clause-draws
+returns-in-SealDone-clause-draws g c =
+    let t = g.T.Turns in
+    drawn_then (t.who c.args.turns.now) (t.who c.begin.new.turns) (t.seen c.args.turns.now) (t.seen c.begin.new.turns) (t.seen c.carry_on.new.turns) c.in_ok-ticket.ensures.who (none_drawn c.in_ok-ticket.ensures.silent) c.in_ok-carry_on.ensures.draws
+
+pub returns-in-NoQuorum-clause-draws : goal.returns-in-NoQuorum-clause-draws
+returns-in-NoQuorum-clause-draws g c =
+    let t = g.T.Turns in
+    drawn_then (t.who c.args.turns.now) (t.who c.begin.new.turns) (t.seen c.args.turns.now) (t.seen c.begin.new.turns) (t.seen c.carry_on.new.turns) c.in_ok-ticket.ensures.who (none_drawn c.in_ok-ticket.ensures.silent) c.in_ok-carry_on.ensures.draws

@@ -7,7 +7,7 @@ use Rattle.legal_journal.specs.Journal.{state_of}
 use Rattle.virtual_log.specs.Causes.{HasCause}
 use Rattle.virtual_log.proofs.OneTurn.{later_continues, later_trans, cause_since}
 use Rattle.virtual_log.proofs.Replacing.{given_now, later_last}
-use Rattle.virtual_log.proofs.Saying.{says_then}
+use Rattle.virtual_log.proofs.Saying.{none_drawn, drawn_then, draws_any, draws_then}
 use Rattle.virtual_log.proofs.Sealing.{seals_then}
 use Rattle.virtual_log.proofs.Calming.{calm_then}
 use Rattle.virtual_log.proofs.Operating.{operates_then, left_then, closes_none}
@@ -74,51 +74,6 @@ returns-in_err-newer-clause-err g c =
     let before = later_trans p.law old (t.seen c.look.new.turns) mid c.in_ok-version.ensures.later c.in_ok-finish.ensures.later in
     rw (r.1, r.2) (cause_since (t.who c.args.turns.now) f old mid new before.more before.seen
     (subst (λ k. HasCause k mid f new) (c.in_ok-finish.ensures.who ∙ c.in_ok-version.ensures.who) c.in_err-newer.ensures.err))
-
-pub returns-in_err-version-clause-words : goal.returns-in_err-version-clause-words
-returns-in_err-version-clause-words g c = c.in_err-version.ensures.silent (g.C.Chooser.may c.args.chooser.now)
-
-pub returns-then-last_of-segment-clause-words : goal.returns-then-last_of-segment-clause-words
-returns-then-last_of-segment-clause-words g c = c.in_ok-version.ensures.silent (g.C.Chooser.may c.args.chooser.now)
-
-pub returns-in_err-finish-clause-words : goal.returns-in_err-finish-clause-words
-returns-in_err-finish-clause-words g c =
-    let t = g.T.Turns in
-    let who = t.who c.args.turns.now in
-    let old = t.seen c.args.turns.now in
-    let may = g.C.Chooser.may in
-    let words = may c.args.chooser.now in
-    let a = t.seen c.look.new.turns in
-    let first = c.in_ok-version.ensures in
-    says_then words who (t.who c.look.new.turns) old a (t.seen c.finish.new.turns) first.who (first.silent words) c.in_err-finish.ensures.words
-
-pub returns-in_err-newer-clause-words : goal.returns-in_err-newer-clause-words
-returns-in_err-newer-clause-words g c =
-    let t = g.T.Turns in
-    let who = t.who c.args.turns.now in
-    let old = t.seen c.args.turns.now in
-    let may = g.C.Chooser.may in
-    let words = may c.args.chooser.now in
-    let a = t.seen c.look.new.turns in
-    let first = c.in_ok-version.ensures in
-    let b = t.seen c.finish.new.turns in
-    let second = c.in_ok-finish.ensures in
-    let to_b = says_then words who (t.who c.look.new.turns) old a b first.who (first.silent words) second.words in
-    says_then words who (t.who c.finish.new.turns) old b (t.seen c.look-2.new.turns) (second.who ∙ first.who) to_b (c.in_err-newer.ensures.silent words)
-
-pub returns-clause-words : goal.returns-clause-words
-returns-clause-words g c =
-    let t = g.T.Turns in
-    let who = t.who c.args.turns.now in
-    let old = t.seen c.args.turns.now in
-    let may = g.C.Chooser.may in
-    let words = may c.args.chooser.now in
-    let a = t.seen c.look.new.turns in
-    let first = c.in_ok-version.ensures in
-    let b = t.seen c.finish.new.turns in
-    let second = c.in_ok-finish.ensures in
-    let to_b = says_then words who (t.who c.look.new.turns) old a b first.who (first.silent words) second.words in
-    says_then words who (t.who c.finish.new.turns) old b (t.seen c.look-2.new.turns) (second.who ∙ first.who) to_b (c.in_ok-newer.ensures.silent words)
 
 pub returns-in_err-version-clause-unsealed : goal.returns-in_err-version-clause-unsealed
 returns-in_err-version-clause-unsealed g c = c.in_err-version.ensures.unsealed
@@ -280,3 +235,43 @@ returns-clause-idle g c =
     let second = c.in_ok-finish.ensures in
     let to_b = idle_then who (t.who c.look.new.turns) old a b first.who first.idle second.idle in
     idle_then who (t.who c.finish.new.turns) old b (t.seen c.look-2.new.turns) (second.who ∙ first.who) to_b c.in_ok-newer.ensures.idle
+
+pub returns-in_err-version-clause-draws : goal.returns-in_err-version-clause-draws
+returns-in_err-version-clause-draws g c = draws_any _ _ _ c.from_residual.result (none_drawn c.in_err-version.ensures.silent)
+
+pub returns-then-last_of-segment-clause-draws : goal.returns-then-last_of-segment-clause-draws
+returns-then-last_of-segment-clause-draws g c = (none_drawn c.in_ok-version.ensures.silent)
+
+pub returns-in_err-finish-clause-draws : goal.returns-in_err-finish-clause-draws
+returns-in_err-finish-clause-draws g c =
+    let t = g.T.Turns in
+    let who = t.who c.args.turns.now in
+    let old = t.seen c.args.turns.now in
+    let a = t.seen c.look.new.turns in
+    let first = c.in_ok-version.ensures in
+    let r = err_from_is_err_and c.from_residual-in_err-finish.result c.from_residual-in_err-finish.ensures.1 in
+    rw (r.1, r.2) (draws_then _ who (t.who c.look.new.turns) old a (t.seen c.finish.new.turns) c.in_err-finish.field-0.0 first.who (none_drawn first.silent) c.in_err-finish.ensures.draws)
+
+pub returns-in_err-newer-clause-draws : goal.returns-in_err-newer-clause-draws
+returns-in_err-newer-clause-draws g c =
+    let t = g.T.Turns in
+    let who = t.who c.args.turns.now in
+    let old = t.seen c.args.turns.now in
+    let a = t.seen c.look.new.turns in
+    let first = c.in_ok-version.ensures in
+    let b = t.seen c.finish.new.turns in
+    let second = c.in_ok-finish.ensures in
+    let to_b = drawn_then who (t.who c.look.new.turns) old a b first.who (none_drawn first.silent) second.draws in
+    draws_any _ _ _ c.from_residual-in_err-newer.result (drawn_then who (t.who c.finish.new.turns) old b (t.seen c.look-2.new.turns) (second.who ∙ first.who) to_b (none_drawn c.in_err-newer.ensures.silent))
+
+pub returns-clause-draws : goal.returns-clause-draws
+returns-clause-draws g c =
+    let t = g.T.Turns in
+    let who = t.who c.args.turns.now in
+    let old = t.seen c.args.turns.now in
+    let a = t.seen c.look.new.turns in
+    let first = c.in_ok-version.ensures in
+    let b = t.seen c.finish.new.turns in
+    let second = c.in_ok-finish.ensures in
+    let to_b = drawn_then who (t.who c.look.new.turns) old a b first.who (none_drawn first.silent) second.draws in
+    drawn_then who (t.who c.finish.new.turns) old b (t.seen c.look-2.new.turns) (second.who ∙ first.who) to_b (none_drawn c.in_ok-newer.ensures.silent)

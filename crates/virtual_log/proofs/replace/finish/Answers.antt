@@ -7,7 +7,7 @@ use Rattle.virtual_log.specs.Causes.{HasCause}
 use Rattle.virtual_log.proofs.OneTurn.{cause_since}
 use Rattle.virtual_log.proofs.Replacing.{last_started}
 use Rattle.virtual_log.proofs.Going.{goes_later}
-use Rattle.virtual_log.proofs.Saying.{says_then}
+use Rattle.virtual_log.proofs.Saying.{none_drawn, drawn_then, draws_any}
 use Rattle.virtual_log.proofs.Sealing.{seals_then}
 use Rattle.virtual_log.proofs.Calming.{calm_then}
 use Rattle.virtual_log.proofs.Operating.{operates_then, closes_none}
@@ -27,18 +27,6 @@ write-requires-clause-goes_by g c =
     let p = g.T.Law.Rules in
     let k = c.args.known.now in
     goes_later p.law (g.T.Turns.seen c.args.turns.now) (g.T.Turns.seen c.find_tail.new.turns) k.version k.tail k.chain c.in_ok-length.ensures.later c.requires.goes_by
-
-pub returns-in_err-write-clause-words : goal.returns-in_err-write-clause-words
-returns-in_err-write-clause-words g c =
-    let t = g.T.Turns in
-    let who = t.who c.args.turns.now in
-    let old = t.seen c.args.turns.now in
-    let mid = t.seen c.find_tail.new.turns in
-    let user = t.who c.find_tail.new.turns in
-    let new = t.seen c.write.new.turns in
-    let first = c.in_ok-length.ensures in
-    let words = g.C.Chooser.may c.args.chooser.now in
-    says_then words who user old mid new first.who first.words (c.in_err-write.ensures.silent words)
 
 pub returns-in_err-write-clause-err : goal.returns-in_err-write-clause-err
 returns-in_err-write-clause-err g c =
@@ -81,18 +69,6 @@ returns-clause-ok g c =
     let k = c.write.new.known in
     let known = (sound p.law (g.T.Turns.seen c.write.new.turns) c.in_ok-write.ensures.later.legal).olds k.version k.chain c.in_ok-write.ensures.goes_by.given in
     omega (arith, c.in_ok-write.ensures.has, known.last, ap (λ (s : Segment). s.id) c.last_of-last.ensures)
-
-pub returns-clause-words : goal.returns-clause-words
-returns-clause-words g c =
-    let t = g.T.Turns in
-    let who = t.who c.args.turns.now in
-    let old = t.seen c.args.turns.now in
-    let mid = t.seen c.find_tail.new.turns in
-    let user = t.who c.find_tail.new.turns in
-    let new = t.seen c.write.new.turns in
-    let first = c.in_ok-length.ensures in
-    let words = g.C.Chooser.may c.args.chooser.now in
-    says_then words who user old mid new first.who first.words (c.in_ok-write.ensures.silent words)
 
 pub returns-clause-unsealed : goal.returns-clause-unsealed
 returns-clause-unsealed g c =
@@ -159,3 +135,25 @@ returns-clause-idle g c =
     let new = t.seen c.write.new.turns in
     let first = c.in_ok-length.ensures in
     idle_then who user old mid new first.who first.idle c.in_ok-write.ensures.idle
+
+pub returns-in_err-write-clause-draws : goal.returns-in_err-write-clause-draws
+returns-in_err-write-clause-draws g c =
+    let t = g.T.Turns in
+    let who = t.who c.args.turns.now in
+    let old = t.seen c.args.turns.now in
+    let mid = t.seen c.find_tail.new.turns in
+    let user = t.who c.find_tail.new.turns in
+    let new = t.seen c.write.new.turns in
+    let first = c.in_ok-length.ensures in
+    draws_any _ _ _ c.from_residual-in_err-write.result (drawn_then who user old mid new first.who first.draws (none_drawn c.in_err-write.ensures.silent))
+
+pub returns-clause-draws : goal.returns-clause-draws
+returns-clause-draws g c =
+    let t = g.T.Turns in
+    let who = t.who c.args.turns.now in
+    let old = t.seen c.args.turns.now in
+    let mid = t.seen c.find_tail.new.turns in
+    let user = t.who c.find_tail.new.turns in
+    let new = t.seen c.write.new.turns in
+    let first = c.in_ok-length.ensures in
+    drawn_then who user old mid new first.who first.draws (none_drawn c.in_ok-write.ensures.silent)

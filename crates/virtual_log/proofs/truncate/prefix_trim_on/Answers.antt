@@ -9,7 +9,7 @@ use Rattle.virtual_log.proofs.OneTurn.{later_trans, later_continues, cause_since
 use Rattle.virtual_log.proofs.Going.{there_later, goes_later, goes_now, trim_below}
 use Rattle.virtual_log.proofs.Raising.{free_later, looked_told, looks_now, looks_later, truncated_in}
 use Rattle.virtual_log.proofs.Trimming.{segments_started, trimmed_since}
-use Rattle.virtual_log.proofs.Saying.{says_then}
+use Rattle.virtual_log.proofs.Saying.{none_drawn, drawn_then, draws_any, draws_then}
 use Rattle.virtual_log.proofs.Sealing.{seals_then}
 use Rattle.virtual_log.proofs.Calming.{calm_then}
 use Rattle.virtual_log.proofs.Operating.{operates_then, left_then, closes_none}
@@ -207,51 +207,6 @@ returns-clause-trimmed g c =
       trimmed = subst (λ (l : List Segment). AreTrimmed who old l c.args.n e) same (trimmed_since who old b e c.as_slice.result.now c.args.n to_b.more to_b.seen (subst (λ w. AreTrimmed w b c.as_slice.result.now c.args.n e) (second.who ∙ first.who) third.trimmed));
     }
 
-pub returns-in_err-version-clause-words : goal.returns-in_err-version-clause-words
-returns-in_err-version-clause-words g c = c.in_err-version.ensures.silent (g.C.Chooser.may c.args.chooser.now)
-
-pub returns-in_err-looked-clause-words : goal.returns-in_err-looked-clause-words
-returns-in_err-looked-clause-words g c = c.in_ok-version.ensures.silent (g.C.Chooser.may c.args.chooser.now)
-
-pub returns-in_err-trim-clause-words : goal.returns-in_err-trim-clause-words
-returns-in_err-trim-clause-words g c =
-    let t = g.T.Turns in
-    let who = t.who c.args.turns.now in
-    let old = t.seen c.args.turns.now in
-    let may = g.C.Chooser.may in
-    let words = may c.args.chooser.now in
-    let a = t.seen c.look.new.turns in
-    let first = c.in_ok-version.ensures in
-    says_then words who (t.who c.look.new.turns) old a (t.seen c.truncate_on.new.turns) first.who (first.silent words) (c.in_err-trim.ensures.silent words)
-
-pub returns-in_err-trim_segments-clause-words : goal.returns-in_err-trim_segments-clause-words
-returns-in_err-trim_segments-clause-words g c =
-    let t = g.T.Turns in
-    let who = t.who c.args.turns.now in
-    let old = t.seen c.args.turns.now in
-    let may = g.C.Chooser.may in
-    let words = may c.args.chooser.now in
-    let a = t.seen c.look.new.turns in
-    let first = c.in_ok-version.ensures in
-    let b = t.seen c.truncate_on.new.turns in
-    let second = c.in_ok-trim.ensures in
-    let to_b = says_then words who (t.who c.look.new.turns) old a b first.who (first.silent words) (second.silent words) in
-    says_then words who (t.who c.truncate_on.new.turns) old b (t.seen c.trim_segments.new.turns) (second.who ∙ first.who) to_b c.in_err-trim_segments.ensures.words
-
-pub returns-clause-words : goal.returns-clause-words
-returns-clause-words g c =
-    let t = g.T.Turns in
-    let who = t.who c.args.turns.now in
-    let old = t.seen c.args.turns.now in
-    let may = g.C.Chooser.may in
-    let words = may c.args.chooser.now in
-    let a = t.seen c.look.new.turns in
-    let first = c.in_ok-version.ensures in
-    let b = t.seen c.truncate_on.new.turns in
-    let second = c.in_ok-trim.ensures in
-    let to_b = says_then words who (t.who c.look.new.turns) old a b first.who (first.silent words) (second.silent words) in
-    says_then words who (t.who c.truncate_on.new.turns) old b (t.seen c.trim_segments.new.turns) (second.who ∙ first.who) to_b c.in_ok-trim_segments.ensures.words
-
 pub returns-in_err-version-clause-unsealed : goal.returns-in_err-version-clause-unsealed
 returns-in_err-version-clause-unsealed g c = c.in_err-version.ensures.unsealed
 
@@ -433,3 +388,43 @@ returns-clause-rises g c =
     let first = c.in_ok-version.ensures in
     let up = rises_now p.law (t.who c.args.turns.now) k.version k.tail c.in_ok-version.version k.chain c.in_ok-version.chain (t.seen c.args.turns.now) (t.seen c.look.new.turns) first.later c.requires.goes_by first.ok in
     omega (arith, up, c.in_ok-trim.ensures.rises)
+
+pub returns-in_err-version-clause-draws : goal.returns-in_err-version-clause-draws
+returns-in_err-version-clause-draws g c = draws_any _ _ _ c.from_residual.result (none_drawn c.in_err-version.ensures.silent)
+
+pub returns-in_err-looked-clause-draws : goal.returns-in_err-looked-clause-draws
+returns-in_err-looked-clause-draws g c = draws_any _ _ _ c.from_residual-in_err-looked.result (none_drawn c.in_ok-version.ensures.silent)
+
+pub returns-in_err-trim-clause-draws : goal.returns-in_err-trim-clause-draws
+returns-in_err-trim-clause-draws g c =
+    let t = g.T.Turns in
+    let who = t.who c.args.turns.now in
+    let old = t.seen c.args.turns.now in
+    let a = t.seen c.look.new.turns in
+    let first = c.in_ok-version.ensures in
+    draws_any _ _ _ c.from_residual-in_err-trim.result (drawn_then who (t.who c.look.new.turns) old a (t.seen c.truncate_on.new.turns) first.who (none_drawn first.silent) (none_drawn c.in_err-trim.ensures.silent))
+
+pub returns-in_err-trim_segments-clause-draws : goal.returns-in_err-trim_segments-clause-draws
+returns-in_err-trim_segments-clause-draws g c =
+    let t = g.T.Turns in
+    let who = t.who c.args.turns.now in
+    let old = t.seen c.args.turns.now in
+    let a = t.seen c.look.new.turns in
+    let first = c.in_ok-version.ensures in
+    let b = t.seen c.truncate_on.new.turns in
+    let second = c.in_ok-trim.ensures in
+    let to_b = drawn_then who (t.who c.look.new.turns) old a b first.who (none_drawn first.silent) (none_drawn second.silent) in
+    let r = err_from_is_err_and c.from_residual-in_err-trim_segments.result c.from_residual-in_err-trim_segments.ensures.1 in
+    rw (r.1, r.2) (draws_then _ who (t.who c.truncate_on.new.turns) old b (t.seen c.trim_segments.new.turns) c.in_err-trim_segments.field-0.0 (second.who ∙ first.who) to_b c.in_err-trim_segments.ensures.draws)
+
+pub returns-clause-draws : goal.returns-clause-draws
+returns-clause-draws g c =
+    let t = g.T.Turns in
+    let who = t.who c.args.turns.now in
+    let old = t.seen c.args.turns.now in
+    let a = t.seen c.look.new.turns in
+    let first = c.in_ok-version.ensures in
+    let b = t.seen c.truncate_on.new.turns in
+    let second = c.in_ok-trim.ensures in
+    let to_b = drawn_then who (t.who c.look.new.turns) old a b first.who (none_drawn first.silent) (none_drawn second.silent) in
+    drawn_then who (t.who c.truncate_on.new.turns) old b (t.seen c.trim_segments.new.turns) (second.who ∙ first.who) to_b c.in_ok-trim_segments.ensures.draws

@@ -8,7 +8,7 @@ use Rattle.virtual_log.specs.declared.fault.Fault.TheVariants as fault
 use Rattle.virtual_log.proofs.OneTurn.{own_by, lack_cause, cause_since}
 use Rattle.virtual_log.proofs.Appending.{started_within}
 use Rattle.virtual_log.proofs.Trimming.{may_trim, trim_event}
-use Rattle.virtual_log.proofs.Saying.{says_refl, says_then}
+use Rattle.virtual_log.proofs.Saying.{drawn_refl, none_drawn, drawn_then, draws_any, spares_then}
 use Rattle.virtual_log.proofs.Sealing.{seals_refl, seals_then}
 use Rattle.virtual_log.proofs.Calming.{calm_refl, calm_then}
 use Rattle.virtual_log.proofs.Answering.{trim_answers}
@@ -59,32 +59,6 @@ returns-in-NoQuorum-clause-err g c =
     (subst (λ k. Answered k mid c.args.segment.id c.in_ok-ticket.ticket r c.in_ok-carry_on.field-0 new) c.in_ok-ticket.ensures.who (c.in_ok-carry_on.ensures.ok r (own_by _ _ _ _ _ c.in_ok-ticket.ensures.who o.own))) in
     cause_since who (fault.NoQuorum c.args.segment.id c.in-NoQuorum.unreached) (t.seen c.args.turns.now) mid new c.in_ok-ticket.ensures.later.more c.in_ok-ticket.ensures.later.seen
     (lack_cause who c.args.segment.id c.in_ok-ticket.ticket c.in-NoQuorum.unreached mid new x.event)
-
-pub returns-then-segment-n-clause-words : goal.returns-then-segment-n-clause-words
-returns-then-segment-n-clause-words g c =
-    let t = g.T.Turns in
-    says_refl (g.C.Chooser.may c.args.chooser.now) (t.who c.args.turns.now) (t.seen c.args.turns.now)
-
-pub returns-in_err-ticket-clause-words : goal.returns-in_err-ticket-clause-words
-returns-in_err-ticket-clause-words g c = c.in_err-ticket.ensures.silent (g.C.Chooser.may c.args.chooser.now)
-
-pub returns-in_err-carry_on-clause-words : goal.returns-in_err-carry_on-clause-words
-returns-in_err-carry_on-clause-words g c =
-    let t = g.T.Turns in
-    let words = g.C.Chooser.may c.args.chooser.now in
-    says_then words (t.who c.args.turns.now) (t.who c.begin.new.turns) (t.seen c.args.turns.now) (t.seen c.begin.new.turns) (t.seen c.carry_on.new.turns) c.in_ok-ticket.ensures.who (c.in_ok-ticket.ensures.silent words) c.in_err-carry_on.ensures.words
-
-pub returns-in-TrimDone-clause-words : goal.returns-in-TrimDone-clause-words
-returns-in-TrimDone-clause-words g c =
-    let t = g.T.Turns in
-    let words = g.C.Chooser.may c.args.chooser.now in
-    says_then words (t.who c.args.turns.now) (t.who c.begin.new.turns) (t.seen c.args.turns.now) (t.seen c.begin.new.turns) (t.seen c.carry_on.new.turns) c.in_ok-ticket.ensures.who (c.in_ok-ticket.ensures.silent words) c.in_ok-carry_on.ensures.words
-
-pub returns-in-NoQuorum-clause-words : goal.returns-in-NoQuorum-clause-words
-returns-in-NoQuorum-clause-words g c =
-    let t = g.T.Turns in
-    let words = g.C.Chooser.may c.args.chooser.now in
-    says_then words (t.who c.args.turns.now) (t.who c.begin.new.turns) (t.seen c.args.turns.now) (t.seen c.begin.new.turns) (t.seen c.carry_on.new.turns) c.in_ok-ticket.ensures.who (c.in_ok-ticket.ensures.silent words) c.in_ok-carry_on.ensures.words
 
 pub returns-then-segment-n-clause-unsealed : goal.returns-then-segment-n-clause-unsealed
 returns-then-segment-n-clause-unsealed g c =
@@ -159,3 +133,25 @@ pub returns-in-NoQuorum-clause-closes : goal.returns-in-NoQuorum-clause-closes
 returns-in-NoQuorum-clause-closes g c =
     let t = g.T.Turns in
     operates_then (t.who c.args.turns.now) (t.who c.begin.new.turns) (t.seen c.args.turns.now) (t.seen c.begin.new.turns) (t.seen c.carry_on.new.turns) c.in_ok-ticket.ensures.who c.in_ok-ticket.ensures.opens c.in_ok-carry_on.ensures.closes
+
+pub returns-then-segment-n-clause-draws : goal.returns-then-segment-n-clause-draws
+returns-then-segment-n-clause-draws g c = drawn_refl _ _
+
+pub returns-in_err-ticket-clause-draws : goal.returns-in_err-ticket-clause-draws
+returns-in_err-ticket-clause-draws g c = draws_any _ _ _ c.from_residual.result (none_drawn c.in_err-ticket.ensures.silent)
+
+pub returns-in_err-carry_on-clause-draws : goal.returns-in_err-carry_on-clause-draws
+returns-in_err-carry_on-clause-draws g c =
+    let t = g.T.Turns in
+    let r = err_from_is_err_and c.from_residual-in_err-carry_on.result c.from_residual-in_err-carry_on.ensures.1 in
+    rw (r.1, r.2) (spares_then (t.who c.args.turns.now) (t.who c.begin.new.turns) (t.seen c.args.turns.now) (t.seen c.begin.new.turns) (t.seen c.carry_on.new.turns) c.in_ok-ticket.ensures.who (none_drawn c.in_ok-ticket.ensures.silent) c.in_err-carry_on.ensures.spares)
+
+pub returns-in-TrimDone-clause-draws : goal.returns-in-TrimDone-clause-draws
+returns-in-TrimDone-clause-draws g c =
+    let t = g.T.Turns in
+    drawn_then (t.who c.args.turns.now) (t.who c.begin.new.turns) (t.seen c.args.turns.now) (t.seen c.begin.new.turns) (t.seen c.carry_on.new.turns) c.in_ok-ticket.ensures.who (none_drawn c.in_ok-ticket.ensures.silent) c.in_ok-carry_on.ensures.draws
+
+pub returns-in-NoQuorum-clause-draws : goal.returns-in-NoQuorum-clause-draws
+returns-in-NoQuorum-clause-draws g c =
+    let t = g.T.Turns in
+    drawn_then (t.who c.args.turns.now) (t.who c.begin.new.turns) (t.seen c.args.turns.now) (t.seen c.begin.new.turns) (t.seen c.carry_on.new.turns) c.in_ok-ticket.ensures.who (none_drawn c.in_ok-ticket.ensures.silent) c.in_ok-carry_on.ensures.draws

@@ -7,7 +7,7 @@ use Rattle.virtual_log.specs.Truncating.{LetsGo}
 use Rattle.virtual_log.specs.Causes.{HasCause}
 use Rattle.virtual_log.proofs.OneTurn.{later_trans, later_continues, later_refl, cause_since}
 use Rattle.virtual_log.proofs.Trimming.{at_index, lets_go_since, lets_go_until}
-use Rattle.virtual_log.proofs.Saying.{says_refl, says_on}
+use Rattle.virtual_log.proofs.Saying.{drawn_refl, drawn_then, draws_then}
 use Rattle.virtual_log.proofs.Sealing.{seals_refl, seals_then}
 use Rattle.virtual_log.proofs.Calming.{calm_refl, calm_then}
 use Rattle.std.proofs.lemmas.Result.{err_from_is_err_and}
@@ -59,11 +59,10 @@ segment-preserved g c =
       later = later_trans p.law old now new i.later step.later;
       who = step.who ∙ i.who;
       trimmed = λ k s h at below. by_test k s h at below (k == l.segment-index) refl;
-      words = says_on (g.C.Chooser.may c.args.chooser.now) (g.C.Chooser.may l.chooser) who (t.who l.turns) old now new i.same i.who i.words step.words;
       unsealed = seals_then who (t.who l.turns) old now new i.who i.unsealed step.unsealed;
       calm = calm_then who (t.who l.turns) old now new i.who i.calm step.calm;
       closes = operates_then who (t.who l.turns) old now new i.who i.closes step.closes;
-      same = step.same ∙ i.same;
+      draws = drawn_then who (t.who l.turns) old now new i.who i.draws step.draws;
     }
 
 pub returns-clause-trimmed : goal.returns-clause-trimmed
@@ -78,24 +77,11 @@ segment-init g c =
       later = later_refl p.law old c.requires.legal;
       who = refl;
       trimmed = λ k s h at below. absurd (omega (arith, h));
-      words = says_refl (g.C.Chooser.may c.args.chooser.now) (t.who c.args.turns.now) old;
       unsealed = seals_refl (t.who c.args.turns.now) old;
       calm = calm_refl (t.who c.args.turns.now) old;
       closes = operates_refl (t.who c.args.turns.now) None old;
-      same = refl;
+      draws = drawn_refl (t.who c.args.turns.now) old;
     }
-
-pub returns-in_err-trim_segment-clause-words : goal.returns-in_err-trim_segment-clause-words
-returns-in_err-trim_segment-clause-words g c =
-    let t = g.T.Turns in
-    let who = t.who c.args.turns.now in
-    let old = t.seen c.args.turns.now in
-    let may = g.C.Chooser.may in
-    let words = may c.args.chooser.now in
-    let l = c.segment in
-    let i = l.invariant in
-    let now = t.seen l.turns in
-    says_on words (may l.chooser) who (t.who l.turns) old now (t.seen c.trim_segment.new.turns) i.same i.who i.words c.in_err-trim_segment.ensures.words
 
 pub returns-in_err-trim_segment-clause-unsealed : goal.returns-in_err-trim_segment-clause-unsealed
 returns-in_err-trim_segment-clause-unsealed g c =
@@ -141,3 +127,14 @@ returns-in_err-trim_segment-clause-err g c =
     let f = c.in_err-trim_segment.field-0.0 in
     let r = err_from_is_err_and c.from_residual.result c.from_residual.ensures.1 in
     rw (r.1, r.2) (cause_since who f old now new i.later.more i.later.seen (subst (λ w. HasCause w now f new) i.who c.in_err-trim_segment.ensures.err))
+
+pub returns-in_err-trim_segment-clause-draws : goal.returns-in_err-trim_segment-clause-draws
+returns-in_err-trim_segment-clause-draws g c =
+    let t = g.T.Turns in
+    let who = t.who c.args.turns.now in
+    let old = t.seen c.args.turns.now in
+    let l = c.segment in
+    let i = l.invariant in
+    let now = t.seen l.turns in
+    let r = err_from_is_err_and c.from_residual.result c.from_residual.ensures.1 in
+    rw (r.1, r.2) (draws_then _ who (t.who l.turns) old now (t.seen c.trim_segment.new.turns) c.in_err-trim_segment.field-0.0 i.who i.draws c.in_err-trim_segment.ensures.draws)

@@ -7,7 +7,7 @@ use Rattle.virtual_log.proofs.OneTurn.{later_continues, cause_since}
 use Rattle.virtual_log.proofs.Going.{goes_later, goes_now}
 use Rattle.virtual_log.proofs.Raising.{free_later, truncated_by}
 use Rattle.virtual_log.proofs.Changing.{settled_since}
-use Rattle.virtual_log.proofs.Saying.{says_then}
+use Rattle.virtual_log.proofs.Saying.{none_then}
 use Rattle.virtual_log.proofs.Sealing.{seals_then}
 use Rattle.virtual_log.proofs.Calming.{calm_then}
 use Rattle.virtual_log.proofs.Operating.{operates_then}
@@ -64,7 +64,7 @@ returns-in_err-write-clause-silent g c =
     let user = t.who c.look.new.turns in
     let new = t.seen c.write.new.turns in
     let first = c.in_ok-version.ensures in
-    λ words. says_then words who user old mid new first.who (first.silent words) (c.in_err-write.ensures.silent words)
+    none_then who user old mid new first.who first.silent c.in_err-write.ensures.silent
 
 pub returns-in_err-write-clause-err : goal.returns-in_err-write-clause-err
 returns-in_err-write-clause-err g c =
@@ -127,7 +127,7 @@ returns-clause-silent g c =
     let user = t.who c.look.new.turns in
     let new = t.seen c.write.new.turns in
     let first = c.in_ok-version.ensures in
-    λ words. says_then words who user old mid new first.who (first.silent words) (c.in_ok-write.ensures.silent words)
+    none_then who user old mid new first.who first.silent c.in_ok-write.ensures.silent
 
 pub returns-clause-unsealed : goal.returns-clause-unsealed
 returns-clause-unsealed g c =

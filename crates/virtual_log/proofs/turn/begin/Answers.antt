@@ -2,7 +2,7 @@ use Rattle.std.proofs.Common.{None, Some, refl}
 use Rattle.virtual_log.proofs.OneTurn.{begin_ok}
 use Rattle.virtual_log.proofs.Writing.{turn_wrote}
 use Rattle.virtual_log.proofs.Sealing.{turn_none, turn_at}
-use Rattle.virtual_log.proofs.Saying.{turn_says}
+use Rattle.virtual_log.proofs.Saying.{turn_silent}
 use Rattle.virtual_log.proofs.Calming.{turn_calm}
 use Rattle.virtual_log.proofs.Answering.{begin_answers}
 use Rattle.virtual_log.proofs.Operating.{turn_hands, turn_keeps}
@@ -34,13 +34,13 @@ pub returns-in-Memory-clause-seals : goal.returns-in-Memory-clause-seals
 returns-in-Memory-clause-seals g c = turn_at _ _ _ _ _ _ _ c.in-Memory.ensures.turn
 
 pub returns-in-Begun-clause-silent : goal.returns-in-Begun-clause-silent
-returns-in-Begun-clause-silent g c = λ words. turn_says _ _ _ words _ _ _ c.in-Begun.ensures.turn tt
+returns-in-Begun-clause-silent g c = turn_silent _ _ _ _ _ _ c.in-Begun.ensures.turn refl
 
 pub returns-in-Full-clause-silent : goal.returns-in-Full-clause-silent
-returns-in-Full-clause-silent g c = λ words. turn_says _ _ _ words _ _ _ c.in-Full.ensures.turn tt
+returns-in-Full-clause-silent g c = turn_silent _ _ _ _ _ _ c.in-Full.ensures.turn refl
 
 pub returns-in-Memory-clause-silent : goal.returns-in-Memory-clause-silent
-returns-in-Memory-clause-silent g c = λ words. turn_says _ _ _ words _ _ _ c.in-Memory.ensures.turn tt
+returns-in-Memory-clause-silent g c = turn_silent _ _ _ _ _ _ c.in-Memory.ensures.turn refl
 
 pub returns-in-Begun-clause-calm : goal.returns-in-Begun-clause-calm
 returns-in-Begun-clause-calm g c = turn_calm _ _ _ _ _ _ c.in-Begun.ensures.turn tt
@@ -64,7 +64,7 @@ pub returns-in-Begun-clause-begun : goal.returns-in-Begun-clause-begun
 returns-in-Begun-clause-begun g c = λ entry of. turn_begins _ _ _ _ _ _ _ entry c.in-Begun.ensures.turn of
 
 pub returns-in-Full-clause-unbegun : goal.returns-in-Full-clause-unbegun
-returns-in-Full-clause-unbegun g c = λ entry of. turn_of _ _ _ _ _ _ entry c.in-Full.ensures.turn (full_begun _ _) refl of
+returns-in-Full-clause-unbegun g c = λ entry of. turn_of _ _ _ _ _ _ entry c.in-Full.ensures.turn (full_begun c.args.cell _) refl of
 
 pub returns-in-Memory-clause-unbegun : goal.returns-in-Memory-clause-unbegun
-returns-in-Memory-clause-unbegun g c = λ entry of. turn_of _ _ _ _ _ _ entry c.in-Memory.ensures.turn (memory_begun _ _) refl of
+returns-in-Memory-clause-unbegun g c = λ entry of. turn_of _ _ _ _ _ _ entry c.in-Memory.ensures.turn (memory_begun c.args.cell _) refl of

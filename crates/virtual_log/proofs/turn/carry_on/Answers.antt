@@ -9,7 +9,7 @@ use Rattle.virtual_log.proofs.OneTurn.{may_carry, may_drop, going_ok, going_stil
 use Rattle.virtual_log.proofs.Owning.{own_split, still_trans, still_refl}
 use Rattle.virtual_log.proofs.Writing.{turn_wrote, wrote_refl, wrote_trans, wrote_by}
 use Rattle.virtual_log.proofs.Sealing.{turn_none, seals_refl, seals_trans, seals_as}
-use Rattle.virtual_log.proofs.Saying.{turn_says, says_refl, says_then, says_on}
+use Rattle.virtual_log.proofs.Saying.{drawn_refl, drawn_then, spares_then, turn_draws, turn_spares, spares_on}
 use Rattle.virtual_log.proofs.Calming.{turn_calm, calm_refl, calm_then}
 use Rattle.virtual_log.proofs.Answering.{carry_answers}
 use Rattle.virtual_log.proofs.Operating.{operates_refl, operates_then, turn_hands, turn_keeps, turn_forgets}
@@ -73,9 +73,8 @@ loop-answer-preserved g c =
           (turn_calm p.law _ _ _ _ _ c.in-Going.ensures.turn tt);
       closes = operates_then (t.who c.args.turns.now) (t.who l.turns) (t.seen c.args.turns.now) (t.seen l.turns) (t.seen c.turn.new.self) l.invariant.who l.invariant.closes
           (turn_keeps p.law (t.who l.turns) (t.seen l.turns) (Some (record { loglet = c.args.cell; ticket = c.args.ticket })) _ _ _ c.in-Going.ensures.turn (refl, refl, refl));
-      words = says_on (g.C.Chooser.may c.args.chooser.now) (g.C.Chooser.may l.chooser) (t.who c.args.turns.now) (t.who l.turns) (t.seen c.args.turns.now) (t.seen l.turns) (t.seen c.turn.new.self) l.invariant.same l.invariant.who l.invariant.words
-          (turn_says p.law (t.who l.turns) (t.seen l.turns) (g.C.Chooser.may l.chooser) _ _ _ c.in-Going.ensures.turn (c.word-word.ensures.given, omega arith));
-      same = c.word-word.ensures.same ∙ l.invariant.same;
+      draws = drawn_then (t.who c.args.turns.now) (t.who l.turns) (t.seen c.args.turns.now) (t.seen l.turns) (t.seen c.turn.new.self) l.invariant.who l.invariant.draws
+          (turn_draws p.law (t.who l.turns) (t.seen l.turns) _ _ _ _ _ c.in-Going.ensures.turn c.in-Going.ensures.turn.event c.word-word.ensures.given (omega arith));
       own = λ r h.
           subst (λ x. IsOwn ((state_of (t.seen c.turn.new.self)).cells c.args.cell) x c.args.ticket r) l.invariant.who
           (going_ok p.law (t.who l.turns) (t.seen l.turns) (t.seen c.turn.new.self) c.args.cell c.args.ticket _ r l.invariant.later.legal c.in-Going.ensures.turn
@@ -103,8 +102,7 @@ loop-answer-init g c =
       idle = idle_refl (t.who c.args.turns.now) old;
       calm = calm_refl (t.who c.args.turns.now) old;
       closes = operates_refl (t.who c.args.turns.now) _ old;
-      words = says_refl (g.C.Chooser.may c.args.chooser.now) (t.who c.args.turns.now) old;
-      same = refl;
+      draws = drawn_refl (t.who c.args.turns.now) old;
     }
 
 pub returns-in-Done-clause-unsealed : goal.returns-in-Done-clause-unsealed
@@ -115,13 +113,13 @@ returns-in-Done-clause-unsealed g c =
     seals_trans (t.who c.args.turns.now) (t.seen c.args.turns.now) (t.seen l.turns) (t.seen c.turn.new.self) l.invariant.unsealed
     (seals_as _ _ _ _ l.invariant.who (turn_none p.law _ _ _ _ _ c.in-Done.ensures.turn refl))
 
-pub returns-in-Done-clause-words : goal.returns-in-Done-clause-words
-returns-in-Done-clause-words g c =
+pub returns-in-Done-clause-draws : goal.returns-in-Done-clause-draws
+returns-in-Done-clause-draws g c =
     let t = g.T.Turns in
     let p = g.T.Law.Rules in
     let l = c.loop-answer in
-    says_on (g.C.Chooser.may c.args.chooser.now) (g.C.Chooser.may l.chooser) (t.who c.args.turns.now) (t.who l.turns) (t.seen c.args.turns.now) (t.seen l.turns) (t.seen c.turn.new.self) l.invariant.same l.invariant.who l.invariant.words
-    (turn_says p.law (t.who l.turns) (t.seen l.turns) (g.C.Chooser.may l.chooser) _ _ _ c.in-Done.ensures.turn (c.word-word.ensures.given, omega arith))
+    drawn_then (t.who c.args.turns.now) (t.who l.turns) (t.seen c.args.turns.now) (t.seen l.turns) (t.seen c.turn.new.self) l.invariant.who l.invariant.draws
+    (turn_draws p.law (t.who l.turns) (t.seen l.turns) _ _ _ _ _ c.in-Done.ensures.turn c.in-Done.ensures.turn.event c.word-word.ensures.given (omega arith))
 
 pub returns-in-Done-clause-calm : goal.returns-in-Done-clause-calm
 returns-in-Done-clause-calm g c = λ is.
@@ -177,16 +175,15 @@ returns-in-Memory-clause-unsealed g c =
     (seals_as _ _ _ _ l.invariant.who (turn_none p.law _ _ _ _ _ c.in-Memory.ensures.turn refl)))
     (seals_as _ _ _ _ (c.turn.ensures.who ∙ l.invariant.who) c.forget.ensures.unsealed)
 
-pub returns-in-Memory-clause-words : goal.returns-in-Memory-clause-words
-returns-in-Memory-clause-words g c =
+pub returns-in-Memory-clause-spares : goal.returns-in-Memory-clause-spares
+returns-in-Memory-clause-spares g c =
     let t = g.T.Turns in
     let p = g.T.Law.Rules in
     let l = c.loop-answer in
-    let words = g.C.Chooser.may c.args.chooser.now in
-    says_then words (t.who c.args.turns.now) (t.who c.turn.new.self) (t.seen c.args.turns.now) (t.seen c.turn.new.self) (t.seen c.forget.new.turns) (c.turn.ensures.who ∙ l.invariant.who)
-    (says_on words (g.C.Chooser.may l.chooser) (t.who c.args.turns.now) (t.who l.turns) (t.seen c.args.turns.now) (t.seen l.turns) (t.seen c.turn.new.self) l.invariant.same l.invariant.who l.invariant.words
-    (turn_says p.law (t.who l.turns) (t.seen l.turns) (g.C.Chooser.may l.chooser) _ _ _ c.in-Memory.ensures.turn (c.word-word.ensures.given, omega arith)))
-    (c.forget.ensures.silent words)
+    spares_on (t.who c.args.turns.now) (t.who c.turn.new.self) (t.seen c.args.turns.now) (t.seen c.turn.new.self) (t.seen c.forget.new.turns) (c.turn.ensures.who ∙ l.invariant.who)
+    (spares_then (t.who c.args.turns.now) (t.who l.turns) (t.seen c.args.turns.now) (t.seen l.turns) (t.seen c.turn.new.self) l.invariant.who l.invariant.draws
+    (turn_spares p.law (t.who l.turns) (t.seen l.turns) _ _ _ _ c.in-Memory.ensures.turn c.word-word.ensures.given (omega arith)))
+    c.forget.ensures.silent
 
 pub returns-in-Memory-clause-memory : goal.returns-in-Memory-clause-memory
 returns-in-Memory-clause-memory g c =

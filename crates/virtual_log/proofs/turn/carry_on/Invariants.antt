@@ -5,7 +5,7 @@ use Rattle.virtual_log.specs.Turning.{OnlyOwn, Still, Later}
 use Rattle.virtual_log.specs.Writing.{WroteNone}
 use Rattle.virtual_log.specs.Causes.{CalmSince}
 use Rattle.virtual_log.specs.Sealing.{SealsNone}
-use Rattle.virtual_log.specs.Saying.{SaysOnly}
+use Rattle.virtual_log.specs.Saying.{SaysDrawn}
 use Rattle.virtual_log.specs.Operating.{Operates}
 use Rattle.virtual_log.specs.Attempts.{Idles}
 use Rattle.virtual_log.proofs.turn.carry_on.Given as goal
@@ -14,7 +14,7 @@ abbrev pub invariant-loop-answer : goal.invariant-loop-answer
 invariant-loop-answer g l =
     let t = g.T.Turns in
     let p = g.T.Law.Rules in
-    let may = g.C.Chooser.may in
+    let ch = g.C.Chooser in
     record {
       later : Later p.law (t.seen l.fn.turns) (t.seen l.turns);
       who : t.who l.turns ≡ t.who l.fn.turns;
@@ -25,8 +25,7 @@ invariant-loop-answer g l =
       idle : Idles (t.who l.fn.turns) (t.seen l.fn.turns) (t.seen l.turns);
       calm : CalmSince (t.who l.fn.turns) (t.seen l.fn.turns) (t.seen l.turns);
       closes : Operates (t.who l.fn.turns) (Some (record { loglet = l.cell; ticket = l.ticket })) (Some (record { loglet = l.cell; ticket = l.ticket })) (t.seen l.fn.turns) (t.seen l.turns);
-      words : SaysOnly (may l.fn.chooser) (t.who l.fn.turns) (t.seen l.fn.turns) (t.seen l.turns);
-      same : may l.chooser ≡ may l.fn.chooser;
+      draws : SaysDrawn ch.gives (t.who l.fn.turns) (ch.at l.fn.chooser) (t.seen l.fn.turns) (ch.at l.chooser) (t.seen l.turns);
     }
 
 abbrev pub decreases-loop-answer : goal.decreases-loop-answer

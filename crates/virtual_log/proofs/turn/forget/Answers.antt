@@ -1,7 +1,7 @@
 use Rattle.std.proofs.Common.{refl}
 use Rattle.legal_journal.specs.declared.events.FabricAnswer.TheVariants.{Gone, NoTicket, Memory}
 use Rattle.virtual_log.proofs.Sealing.{turn_none}
-use Rattle.virtual_log.proofs.Saying.{turn_says}
+use Rattle.virtual_log.proofs.Saying.{turn_silent}
 use Rattle.virtual_log.proofs.Attempts.{turn_idles}
 use Rattle.virtual_log.proofs.Calming.{turn_calm}
 use Rattle.virtual_log.proofs.Answering.{forget_answers}
@@ -14,7 +14,7 @@ pub returns-in-Gone-clause-unsealed : goal.returns-in-Gone-clause-unsealed
 returns-in-Gone-clause-unsealed g c = turn_none _ _ _ _ _ _ c.in-Gone.ensures.turn refl
 
 pub returns-in-Gone-clause-silent : goal.returns-in-Gone-clause-silent
-returns-in-Gone-clause-silent g c = λ words. turn_says _ _ _ words _ _ _ c.in-Gone.ensures.turn tt
+returns-in-Gone-clause-silent g c = turn_silent _ _ _ _ _ _ c.in-Gone.ensures.turn refl
 
 pub returns-in-Gone-clause-calm : goal.returns-in-Gone-clause-calm
 returns-in-Gone-clause-calm g c = turn_calm _ _ _ _ _ _ c.in-Gone.ensures.turn tt
@@ -26,7 +26,7 @@ pub returns-in-NoTicket-clause-unsealed : goal.returns-in-NoTicket-clause-unseal
 returns-in-NoTicket-clause-unsealed g c = turn_none _ _ _ _ _ _ c.in-NoTicket.ensures.turn refl
 
 pub returns-in-NoTicket-clause-silent : goal.returns-in-NoTicket-clause-silent
-returns-in-NoTicket-clause-silent g c = λ words. turn_says _ _ _ words _ _ _ c.in-NoTicket.ensures.turn tt
+returns-in-NoTicket-clause-silent g c = turn_silent _ _ _ _ _ _ c.in-NoTicket.ensures.turn refl
 
 pub returns-in-NoTicket-clause-calm : goal.returns-in-NoTicket-clause-calm
 returns-in-NoTicket-clause-calm g c = turn_calm _ _ _ _ _ _ c.in-NoTicket.ensures.turn tt
@@ -38,7 +38,7 @@ pub returns-in-Memory-clause-unsealed : goal.returns-in-Memory-clause-unsealed
 returns-in-Memory-clause-unsealed g c = turn_none _ _ _ _ _ _ c.in-Memory.ensures.turn refl
 
 pub returns-in-Memory-clause-silent : goal.returns-in-Memory-clause-silent
-returns-in-Memory-clause-silent g c = λ words. turn_says _ _ _ words _ _ _ c.in-Memory.ensures.turn tt
+returns-in-Memory-clause-silent g c = turn_silent _ _ _ _ _ _ c.in-Memory.ensures.turn refl
 
 pub returns-in-Memory-clause-calm : goal.returns-in-Memory-clause-calm
 returns-in-Memory-clause-calm g c = turn_calm _ _ _ _ _ _ c.in-Memory.ensures.turn tt

@@ -2,7 +2,7 @@ use Rattle.std.proofs.Common.{refl, None}
 use Rattle.virtual_log.proofs.OneTurn.{look_ok}
 use Rattle.virtual_log.proofs.Writing.{turn_quiet}
 use Rattle.virtual_log.proofs.Sealing.{turn_none}
-use Rattle.virtual_log.proofs.Saying.{turn_says}
+use Rattle.virtual_log.proofs.Saying.{turn_silent}
 use Rattle.virtual_log.proofs.Calming.{turn_calm}
 use Rattle.virtual_log.proofs.Answering.{look_answers}
 use Rattle.virtual_log.proofs.Operating.{turn_keeps}
@@ -22,13 +22,13 @@ pub returns-in-Memory-clause-unsealed : goal.returns-in-Memory-clause-unsealed
 returns-in-Memory-clause-unsealed g c = turn_none _ _ _ _ _ _ c.in-Memory.ensures.turn refl
 
 pub returns-in-At-clause-silent : goal.returns-in-At-clause-silent
-returns-in-At-clause-silent g c = λ words. turn_says _ _ _ words _ _ _ c.in-At.ensures.turn tt
+returns-in-At-clause-silent g c = turn_silent _ _ _ _ _ _ c.in-At.ensures.turn refl
 
 pub returns-in-Down-clause-silent : goal.returns-in-Down-clause-silent
-returns-in-Down-clause-silent g c = λ words. turn_says _ _ _ words _ _ _ c.in-Down.ensures.turn tt
+returns-in-Down-clause-silent g c = turn_silent _ _ _ _ _ _ c.in-Down.ensures.turn refl
 
 pub returns-in-Memory-clause-silent : goal.returns-in-Memory-clause-silent
-returns-in-Memory-clause-silent g c = λ words. turn_says _ _ _ words _ _ _ c.in-Memory.ensures.turn tt
+returns-in-Memory-clause-silent g c = turn_silent _ _ _ _ _ _ c.in-Memory.ensures.turn refl
 
 pub returns-in-At-clause-calm : goal.returns-in-At-clause-calm
 returns-in-At-clause-calm g c = turn_calm _ _ _ _ _ _ c.in-At.ensures.turn tt

@@ -1,16 +1,17 @@
+use Rattle.virtual_log.proofs.Saying.{draws_any, none_drawn}
 use Rattle.virtual_log.proofs.underway.advance.Goals as goal
 
-pub returns-in-Starting-clause-went : goal.returns-in-Starting-clause-went
-returns-in-Starting-clause-went g c = c.start.ensures.went (g.C.Chooser.may c.args.chooser.now)
+pub returns-in-Starting-clause-draws : goal.returns-in-Starting-clause-draws
+returns-in-Starting-clause-draws g c = draws_any _ _ _ c.start.result (none_drawn c.start.ensures.silent)
 
-pub returns-in-Reading-clause-went : goal.returns-in-Reading-clause-went
-returns-in-Reading-clause-went g c = c.read.ensures.went (g.C.Chooser.may c.args.chooser.now)
+pub returns-in-Reading-clause-draws : goal.returns-in-Reading-clause-draws
+returns-in-Reading-clause-draws g c = draws_any _ _ _ c.read.result (none_drawn c.read.ensures.silent)
 
-pub returns-in-Asking-clause-went : goal.returns-in-Asking-clause-went
-returns-in-Asking-clause-went g c = c.ask.ensures.went (g.C.Chooser.may c.args.chooser.now)
+pub returns-in-Asking-clause-draws : goal.returns-in-Asking-clause-draws
+returns-in-Asking-clause-draws g c = draws_any _ _ _ c.ask.result (none_drawn c.ask.ensures.silent)
 
-pub returns-in-Closing-clause-went : goal.returns-in-Closing-clause-went
-returns-in-Closing-clause-went g c = c.close.ensures.went (g.C.Chooser.may c.args.chooser.now)
+pub returns-in-Closing-clause-draws : goal.returns-in-Closing-clause-draws
+returns-in-Closing-clause-draws g c = draws_any _ _ _ c.close.result (none_drawn c.close.ensures.silent)
 
-pub returns-in-Dropping-clause-went : goal.returns-in-Dropping-clause-went
-returns-in-Dropping-clause-went g c = c.drop_and_start.ensures.went (g.C.Chooser.may c.args.chooser.now)
+pub returns-in-Dropping-clause-draws : goal.returns-in-Dropping-clause-draws
+returns-in-Dropping-clause-draws g c = draws_any _ _ _ c.drop_and_start.result (none_drawn c.drop_and_start.ensures.silent)

@@ -8,6 +8,7 @@ use Rattle.virtual_log.proofs.OneTurn.{full_cause}
 use Rattle.virtual_log.proofs.Appending.{may_tail, started_within}
 use Rattle.virtual_log.proofs.Answering.{begin_answers}
 use Rattle.virtual_log.proofs.Stepping.{went_by, going_by, last_starts, asked, failed, no_memory}
+use Rattle.virtual_log.proofs.Saying.{turn_silent}
 use Rattle.virtual_log.proofs.underway.ask.Goals as goal
 
 pub turn-requires-clause-may : goal.turn-requires-clause-may
@@ -20,30 +21,39 @@ turn-requires-clause-may g c =
     may_tail p.law _ _ s.id (started_within p.law old s.id s.start c.requires.legal (last_starts p.law old s c.requires.legal x.at.last))
 
 pub returns-in-Begun-clause-went : goal.returns-in-Begun-clause-went
-returns-in-Begun-clause-went g c = λ words.
+returns-in-Begun-clause-went g c =
     let p = g.T.Law.Rules in
     let t = g.T.Turns in
     went_by c.args.going.now (Asking c.args.segment) c.requires.step
-    (asked p.law words (t.who c.args.turns.now) (t.seen c.args.turns.now) c.args.known.now c.requires.legal c.requires.goes_by
+    (asked p.law (t.who c.args.turns.now) (t.seen c.args.turns.now) c.args.known.now c.requires.legal c.requires.goes_by
     c.args.segment c.in-Begun.ticket c.args.going.now.entry (t.seen c.turn.new.self) c.in-Begun.ensures.turn)
 
 pub returns-in-Full-clause-went : goal.returns-in-Full-clause-went
-returns-in-Full-clause-went g c = λ words.
+returns-in-Full-clause-went g c =
     let p = g.T.Law.Rules in
     let t = g.T.Turns in
     let who = t.who c.args.turns.now in
     let old = t.seen c.args.turns.now in
     let new = t.seen c.turn.new.self in
-    failed p.law words who old c.args.known.now c.requires.legal c.requires.goes_by
-    (Begin c.args.segment.id Tail) fabric.Full new c.args.going.now (fault.Full c.args.segment.id) c.in-Full.ensures.turn tt refl (λ i u. tt)
+    failed p.law who old c.args.known.now c.requires.legal c.requires.goes_by
+    (Begin c.args.segment.id Tail) fabric.Full new c.args.going.now (fault.Full c.args.segment.id) c.in-Full.ensures.turn refl (λ i u. tt)
     (refl, full_cause p.law who old new c.args.segment.id Tail c.in-Full.ensures.turn)
 
 pub returns-in-Memory-clause-went : goal.returns-in-Memory-clause-went
-returns-in-Memory-clause-went g c = λ words.
+returns-in-Memory-clause-went g c =
     let p = g.T.Law.Rules in
     let t = g.T.Turns in
-    no_memory p.law words (t.who c.args.turns.now) (t.seen c.args.turns.now) c.args.known.now c.requires.legal c.requires.goes_by
-    (Begin c.args.segment.id Tail) (t.seen c.turn.new.self) c.args.going.now c.in-Memory.ensures.turn tt refl (λ i u. tt)
+    no_memory p.law (t.who c.args.turns.now) (t.seen c.args.turns.now) c.args.known.now c.requires.legal c.requires.goes_by
+    (Begin c.args.segment.id Tail) (t.seen c.turn.new.self) c.args.going.now c.in-Memory.ensures.turn refl (λ i u. tt)
 
 pub unreachable-requires : goal.unreachable-requires
 unreachable-requires g c = begin_answers _ _ _ _ _ _ _ c.turn.ensures.turn c.in_default.not-Begun c.in_default.not-Full c.in_default.not-Memory
+
+pub returns-in-Begun-clause-silent : goal.returns-in-Begun-clause-silent
+returns-in-Begun-clause-silent g c = turn_silent _ _ _ _ _ _ c.in-Begun.ensures.turn refl
+
+pub returns-in-Full-clause-silent : goal.returns-in-Full-clause-silent
+returns-in-Full-clause-silent g c = turn_silent _ _ _ _ _ _ c.in-Full.ensures.turn refl
+
+pub returns-in-Memory-clause-silent : goal.returns-in-Memory-clause-silent
+returns-in-Memory-clause-silent g c = turn_silent _ _ _ _ _ _ c.in-Memory.ensures.turn refl

@@ -10,6 +10,7 @@ use Rattle.virtual_log.proofs.Appending.{started_within}
 use Rattle.virtual_log.proofs.Answering.{carry_answers, append_answers}
 use Rattle.virtual_log.proofs.Sparing.{turn_dropping}
 use Rattle.virtual_log.proofs.Stepping.{at_step, went_by, went_still, going_by, last_starts, appending_last, dropping_of, append_going, append_sealed, placing, append_placed, lacked, gave_up}
+use Rattle.virtual_log.proofs.Saying.{spares_on, turn_draws, turn_silent, turn_spares}
 use Rattle.virtual_log.proofs.underway.carry_append.Goals as goal
 
 pub turn-requires-clause-may : goal.turn-requires-clause-may
@@ -18,7 +19,6 @@ turn-requires-clause-may g c =
     let t = g.T.Turns in
     let who = t.who c.args.turns.now in
     let old = t.seen c.args.turns.now in
-    let words = g.C.Chooser.may c.args.chooser.now in
     let k = c.args.known.now in
     let s = c.args.segment in
     let going = c.args.going.now in
@@ -33,14 +33,13 @@ returns-in-Going-clause-went g c =
     let t = g.T.Turns in
     let who = t.who c.args.turns.now in
     let old = t.seen c.args.turns.now in
-    let words = g.C.Chooser.may c.args.chooser.now in
     let k = c.args.known.now in
     let s = c.args.segment in
     let going = c.args.going.now in
     let x = going_by going (Appending s c.args.ticket) c.requires.step c.requires.going.1 in
     went_still going (Appending s c.args.ticket) c.requires.step
-    (append_going p.law words who old k c.requires.legal c.requires.goes_by
-    s c.args.ticket c.word-word.result going.entry (t.seen c.turn.new.self) c.in-Going.ensures.turn (c.word-word.ensures.given, omega arith))
+    (append_going p.law who old k c.requires.legal c.requires.goes_by
+    s c.args.ticket c.word-word.result going.entry (t.seen c.turn.new.self) c.in-Going.ensures.turn)
 
 pub returns-in-NoQuorum-clause-went : goal.returns-in-NoQuorum-clause-went
 returns-in-NoQuorum-clause-went g c =
@@ -48,7 +47,6 @@ returns-in-NoQuorum-clause-went g c =
     let t = g.T.Turns in
     let who = t.who c.args.turns.now in
     let old = t.seen c.args.turns.now in
-    let words = g.C.Chooser.may c.args.chooser.now in
     let k = c.args.known.now in
     let s = c.args.segment in
     let going = c.args.going.now in
@@ -56,8 +54,8 @@ returns-in-NoQuorum-clause-went g c =
     let new = t.seen c.turn.new.self in
     let turn = subst (λ (a : Answer). IsTurn p.law who old (Carry s.id c.args.ticket c.word-word.result) (fabric.Done a) new) c.in-NoQuorum.is c.in-Done.ensures.turn in
     went_still going (Appending s c.args.ticket) c.requires.step
-    (lacked p.law words who old k c.requires.legal c.requires.goes_by
-    s.id c.args.ticket c.word-word.result c.in-NoQuorum.unreached new (at_step going.entry (Appending s c.args.ticket)) _ turn x.at.own (refl, refl) (c.word-word.ensures.given, omega arith))
+    (lacked p.law who old k c.requires.legal c.requires.goes_by
+    s.id c.args.ticket c.word-word.result c.in-NoQuorum.unreached new (at_step going.entry (Appending s c.args.ticket)) _ turn x.at.own (refl, refl))
 
 pub forget-going-requires-clause-dropping : goal.forget-going-requires-clause-dropping
 forget-going-requires-clause-dropping g c =
@@ -65,7 +63,6 @@ forget-going-requires-clause-dropping g c =
     let t = g.T.Turns in
     let who = t.who c.args.turns.now in
     let old = t.seen c.args.turns.now in
-    let words = g.C.Chooser.may c.args.chooser.now in
     let k = c.args.known.now in
     let s = c.args.segment in
     let going = c.args.going.now in
@@ -80,7 +77,6 @@ returns-in-Memory-clause-went g c =
     let t = g.T.Turns in
     let who = t.who c.args.turns.now in
     let old = t.seen c.args.turns.now in
-    let words = g.C.Chooser.may c.args.chooser.now in
     let k = c.args.known.now in
     let s = c.args.segment in
     let going = c.args.going.now in
@@ -91,8 +87,8 @@ returns-in-Memory-clause-went g c =
     let last = c.forget-going.ensures.turn in
     let turn = subst (λ w. IsTurn p.law w mid (Forget s.id c.args.ticket) last.0 new) c.turn.ensures.who last.2 in
     went_by going (Appending s c.args.ticket) c.requires.step
-    (gave_up p.law words who old k c.requires.legal c.requires.goes_by
-    s.id c.args.ticket c.word-word.result mid new (at_step going.entry (Appending s c.args.ticket)) last.0 c.forget-going.result c.in-Memory.ensures.turn (c.word-word.ensures.given, omega arith) drop (refl, refl) turn last.1)
+    (gave_up p.law who old k c.requires.legal c.requires.goes_by
+    s.id c.args.ticket c.word-word.result mid new (at_step going.entry (Appending s c.args.ticket)) last.0 c.forget-going.result c.in-Memory.ensures.turn drop (refl, refl) turn last.1)
 
 pub unreachable-requires-in_default : goal.unreachable-requires-in_default
 unreachable-requires-in_default g c =
@@ -100,7 +96,6 @@ unreachable-requires-in_default g c =
     let t = g.T.Turns in
     let who = t.who c.args.turns.now in
     let old = t.seen c.args.turns.now in
-    let words = g.C.Chooser.may c.args.chooser.now in
     let k = c.args.known.now in
     let s = c.args.segment in
     let going = c.args.going.now in
@@ -113,14 +108,13 @@ overflow_add-position g c =
     let t = g.T.Turns in
     let who = t.who c.args.turns.now in
     let old = t.seen c.args.turns.now in
-    let words = g.C.Chooser.may c.args.chooser.now in
     let k = c.args.known.now in
     let s = c.args.segment in
     let going = c.args.going.now in
     let x = going_by going (Appending s c.args.ticket) c.requires.step c.requires.going.1 in
     let new = t.seen c.turn.new.self in
     let turn = subst (λ (a : Answer). IsTurn p.law who old (Carry s.id c.args.ticket c.word-word.result) (fabric.Done a) new) c.in-Placed.is c.in-Done.ensures.turn in
-    let z = placing p.law words who old k c.requires.legal c.requires.goes_by s c.args.ticket c.word-word.result c.in-Placed.place going.entry c.requires.going.0 new turn x in
+    let z = placing p.law who old k c.requires.legal c.requires.goes_by s c.args.ticket c.word-word.result c.in-Placed.place going.entry c.requires.going.0 new turn x in
     omega (arith, z.fits)
 
 pub overflow_add-position-in-Placed : goal.overflow_add-position-in-Placed
@@ -129,14 +123,13 @@ overflow_add-position-in-Placed g c =
     let t = g.T.Turns in
     let who = t.who c.args.turns.now in
     let old = t.seen c.args.turns.now in
-    let words = g.C.Chooser.may c.args.chooser.now in
     let k = c.args.known.now in
     let s = c.args.segment in
     let going = c.args.going.now in
     let x = going_by going (Appending s c.args.ticket) c.requires.step c.requires.going.1 in
     let new = t.seen c.turn.new.self in
     let turn = subst (λ (a : Answer). IsTurn p.law who old (Carry s.id c.args.ticket c.word-word.result) (fabric.Done a) new) c.in-Placed.is c.in-Done.ensures.turn in
-    let z = placing p.law words who old k c.requires.legal c.requires.goes_by s c.args.ticket c.word-word.result c.in-Placed.place going.entry c.requires.going.0 new turn x in
+    let z = placing p.law who old k c.requires.legal c.requires.goes_by s c.args.ticket c.word-word.result c.in-Placed.place going.entry c.requires.going.0 new turn x in
     omega (arith, z.fits)
 
 pub returns-in-Placed-clause-went : goal.returns-in-Placed-clause-went
@@ -145,7 +138,6 @@ returns-in-Placed-clause-went g c =
     let t = g.T.Turns in
     let who = t.who c.args.turns.now in
     let old = t.seen c.args.turns.now in
-    let words = g.C.Chooser.may c.args.chooser.now in
     let k = c.args.known.now in
     let s = c.args.segment in
     let going = c.args.going.now in
@@ -153,8 +145,8 @@ returns-in-Placed-clause-went g c =
     let new = t.seen c.turn.new.self in
     let turn = subst (λ (a : Answer). IsTurn p.law who old (Carry s.id c.args.ticket c.word-word.result) (fabric.Done a) new) c.in-Placed.is c.in-Done.ensures.turn in
     went_still going (Appending s c.args.ticket) c.requires.step
-    (append_placed p.law words who old k c.requires.legal c.requires.goes_by
-    s c.args.ticket c.word-word.result c.in-Placed.place c.max-known.result going.entry c.requires.going.0 new turn (c.word-word.ensures.given, omega arith) x c.max-known.ensures)
+    (append_placed p.law who old k c.requires.legal c.requires.goes_by
+    s c.args.ticket c.word-word.result c.in-Placed.place c.max-known.result going.entry c.requires.going.0 new turn x c.max-known.ensures)
 
 pub returns-in-Sealed-clause-went : goal.returns-in-Sealed-clause-went
 returns-in-Sealed-clause-went g c =
@@ -162,7 +154,6 @@ returns-in-Sealed-clause-went g c =
     let t = g.T.Turns in
     let who = t.who c.args.turns.now in
     let old = t.seen c.args.turns.now in
-    let words = g.C.Chooser.may c.args.chooser.now in
     let k = c.args.known.now in
     let s = c.args.segment in
     let going = c.args.going.now in
@@ -170,8 +161,8 @@ returns-in-Sealed-clause-went g c =
     let new = t.seen c.turn.new.self in
     let turn = subst (λ (a : Answer). IsTurn p.law who old (Carry s.id c.args.ticket c.word-word.result) (fabric.Done a) new) c.in-Sealed.is c.in-Done.ensures.turn in
     went_by going (Appending s c.args.ticket) c.requires.step
-    (append_sealed p.law words who old k c.requires.legal c.requires.goes_by
-    s c.args.ticket c.word-word.result going.entry new turn (c.word-word.ensures.given, omega arith))
+    (append_sealed p.law who old k c.requires.legal c.requires.goes_by
+    s c.args.ticket c.word-word.result going.entry new turn)
 
 pub unreachable-requires : goal.unreachable-requires
 unreachable-requires g c =
@@ -179,10 +170,32 @@ unreachable-requires g c =
     let t = g.T.Turns in
     let who = t.who c.args.turns.now in
     let old = t.seen c.args.turns.now in
-    let words = g.C.Chooser.may c.args.chooser.now in
     let k = c.args.known.now in
     let s = c.args.segment in
     let going = c.args.going.now in
     let x = going_by going (Appending s c.args.ticket) c.requires.step c.requires.going.1 in
     let done = done_ok p.law who old (t.seen c.turn.new.self) s.id c.args.ticket _ _ c.in-Done.answer c.requires.legal c.in-Done.ensures.turn x.at.own in
     append_answers _ _ going.entry _ done.may c.in_default-answer.not-Placed c.in_default-answer.not-Sealed c.in_default-answer.not-NoQuorum
+
+pub returns-in-Going-clause-draws : goal.returns-in-Going-clause-draws
+returns-in-Going-clause-draws g c = turn_draws _ _ _ _ _ _ _ _ c.in-Going.ensures.turn c.in-Going.ensures.turn.event c.word-word.ensures.given (omega arith)
+
+pub returns-in-NoQuorum-clause-draws : goal.returns-in-NoQuorum-clause-draws
+returns-in-NoQuorum-clause-draws g c = turn_draws _ _ _ _ _ _ _ _ c.in-Done.ensures.turn c.in-Done.ensures.turn.event c.word-word.ensures.given (omega arith)
+
+pub returns-in-Placed-clause-draws : goal.returns-in-Placed-clause-draws
+returns-in-Placed-clause-draws g c = turn_draws _ _ _ _ _ _ _ _ c.in-Done.ensures.turn c.in-Done.ensures.turn.event c.word-word.ensures.given (omega arith)
+
+pub returns-in-Sealed-clause-draws : goal.returns-in-Sealed-clause-draws
+returns-in-Sealed-clause-draws g c = turn_draws _ _ _ _ _ _ _ _ c.in-Done.ensures.turn c.in-Done.ensures.turn.event c.word-word.ensures.given (omega arith)
+
+pub returns-in-Memory-clause-draws : goal.returns-in-Memory-clause-draws
+returns-in-Memory-clause-draws g c =
+    let t = g.T.Turns in
+    let who = t.who c.args.turns.now in
+    let old = t.seen c.args.turns.now in
+    let mid = t.seen c.turn.new.self in
+    let new = t.seen c.forget-going.new.turns in
+    spares_on who (t.who c.turn.new.self) old mid new c.turn.ensures.who
+    (turn_spares _ _ _ _ _ _ _ c.in-Memory.ensures.turn c.word-word.ensures.given (omega arith))
+    (turn_silent _ _ _ _ _ _ c.forget-going.ensures.turn.2 refl)

@@ -26,7 +26,7 @@ returns-clause-above g c =
     let going = c.args.going.now in
     let m = c.advance-made in
     let is = c.due-going.ensures ∙ ap (due (last_segment k.chain).id) c.replace-step.ensures.value in
-    let w = subst (λ x. Went p.law (g.C.Chooser.may c.args.chooser.now) who old k (at_step going.entry x) (t.seen m.new.turns) m.new.known m.new.going m.result) is m.ensures.went in
+    let w = subst (λ x. Went p.law who old k (at_step going.entry x) (t.seen m.new.turns) m.new.known m.new.going m.result) is m.ensures.went in
     outcome_above p.law.may who old k going (t.seen m.new.turns) m.new.known m.new.going m.result w.outcome
 
 pub returns-clause-going : goal.returns-clause-going
@@ -39,7 +39,7 @@ returns-clause-going g c =
     let going = c.args.going.now in
     let m = c.advance-made in
     let is = c.due-going.ensures ∙ ap (due (last_segment k.chain).id) c.replace-step.ensures.value in
-    let w = subst (λ x. Went p.law (g.C.Chooser.may c.args.chooser.now) who old k (at_step going.entry x) (t.seen m.new.turns) m.new.known m.new.going m.result) is m.ensures.went in
+    let w = subst (λ x. Went p.law who old k (at_step going.entry x) (t.seen m.new.turns) m.new.known m.new.going m.result) is m.ensures.went in
     outcome_going p.law.may who old k going (t.seen m.new.turns) m.new.known m.new.going m.result w.outcome
 
 pub returns-clause-again : goal.returns-clause-again
@@ -52,7 +52,7 @@ returns-clause-again g c =
     let going = c.args.going.now in
     let m = c.advance-made in
     let is = c.due-going.ensures ∙ ap (due (last_segment k.chain).id) c.replace-step.ensures.value in
-    let w = subst (λ x. Went p.law (g.C.Chooser.may c.args.chooser.now) who old k (at_step going.entry x) (t.seen m.new.turns) m.new.known m.new.going m.result) is m.ensures.went in
+    let w = subst (λ x. Went p.law who old k (at_step going.entry x) (t.seen m.new.turns) m.new.known m.new.going m.result) is m.ensures.went in
     outcome_again p.law.may who old k going (t.seen m.new.turns) m.new.known m.new.going m.result w.outcome
 
 pub returns-clause-left : goal.returns-clause-left
@@ -65,7 +65,7 @@ returns-clause-left g c =
     let going = c.args.going.now in
     let m = c.advance-made in
     let is = c.due-going.ensures ∙ ap (due (last_segment k.chain).id) c.replace-step.ensures.value in
-    let w = subst (λ x. Went p.law (g.C.Chooser.may c.args.chooser.now) who old k (at_step going.entry x) (t.seen m.new.turns) m.new.known m.new.going m.result) is m.ensures.went in
+    let w = subst (λ x. Went p.law who old k (at_step going.entry x) (t.seen m.new.turns) m.new.known m.new.going m.result) is m.ensures.went in
     due_left p.law.may who old k going (t.seen m.new.turns) m.new.known m.new.going w.left
 
 pub returns-clause-others : goal.returns-clause-others
@@ -78,5 +78,5 @@ returns-clause-others g c =
     let going = c.args.going.now in
     let m = c.advance-made in
     let is = c.due-going.ensures ∙ ap (due (last_segment k.chain).id) c.replace-step.ensures.value in
-    let w = subst (λ x. Went p.law (g.C.Chooser.may c.args.chooser.now) who old k (at_step going.entry x) (t.seen m.new.turns) m.new.known m.new.going m.result) is m.ensures.went in
+    let w = subst (λ x. Went p.law who old k (at_step going.entry x) (t.seen m.new.turns) m.new.known m.new.going m.result) is m.ensures.went in
     due_others p.law.may who old k going (t.seen m.new.turns) m.new.known m.new.going w.others

@@ -11,6 +11,7 @@ use Rattle.virtual_log.proofs.Appending.{may_append, started_within}
 use Rattle.virtual_log.proofs.Going.{last_there}
 use Rattle.virtual_log.proofs.Answering.{begin_answers}
 use Rattle.virtual_log.proofs.Stepping.{went_by, began, failed, no_memory}
+use Rattle.virtual_log.proofs.Saying.{none_refl, turn_silent}
 use Rattle.virtual_log.proofs.underway.start.Goals as goal
 
 pub turn-requires-clause-may : goal.turn-requires-clause-may
@@ -28,31 +29,43 @@ turn-requires-clause-may g c =
     (subst IsSpellable (sym c.in_ok-copy.ensures.cases) x.spelled)
 
 pub returns-in-Begun-clause-went : goal.returns-in-Begun-clause-went
-returns-in-Begun-clause-went g c = λ words.
+returns-in-Begun-clause-went g c =
     let p = g.T.Law.Rules in
     let t = g.T.Turns in
     went_by c.args.going.now Starting c.requires.step
-    (began p.law words (t.who c.args.turns.now) (t.seen c.args.turns.now) c.args.known.now c.requires.legal c.requires.goes_by
+    (began p.law (t.who c.args.turns.now) (t.seen c.args.turns.now) c.args.known.now c.requires.legal c.requires.goes_by
     c.last_of-segment.result c.in-Begun.ticket c.in_ok-copy.copy c.args.going.now.entry (t.seen c.turn.new.self) c.last_of-segment.ensures c.in_ok-copy.ensures.cases c.in-Begun.ensures.turn)
 
 pub returns-in-Full-clause-went : goal.returns-in-Full-clause-went
-returns-in-Full-clause-went g c = λ words.
+returns-in-Full-clause-went g c =
     let p = g.T.Law.Rules in
     let t = g.T.Turns in
     let who = t.who c.args.turns.now in
     let old = t.seen c.args.turns.now in
     let new = t.seen c.turn.new.self in
     let id = c.last_of-segment.result.id in
-    failed p.law words who old c.args.known.now c.requires.legal c.requires.goes_by
-    (Begin id (Append c.in_ok-copy.copy)) fabric.Full new c.args.going.now (fault.Full id) c.in-Full.ensures.turn tt refl (λ i u. tt)
+    failed p.law who old c.args.known.now c.requires.legal c.requires.goes_by
+    (Begin id (Append c.in_ok-copy.copy)) fabric.Full new c.args.going.now (fault.Full id) c.in-Full.ensures.turn refl (λ i u. tt)
     (refl, full_cause p.law who old new id (Append c.in_ok-copy.copy) c.in-Full.ensures.turn)
 
 pub returns-in-Memory-clause-went : goal.returns-in-Memory-clause-went
-returns-in-Memory-clause-went g c = λ words.
+returns-in-Memory-clause-went g c =
     let p = g.T.Law.Rules in
     let t = g.T.Turns in
-    no_memory p.law words (t.who c.args.turns.now) (t.seen c.args.turns.now) c.args.known.now c.requires.legal c.requires.goes_by
-    (Begin c.last_of-segment.result.id (Append c.in_ok-copy.copy)) (t.seen c.turn.new.self) c.args.going.now c.in-Memory.ensures.turn tt refl (λ i u. tt)
+    no_memory p.law (t.who c.args.turns.now) (t.seen c.args.turns.now) c.args.known.now c.requires.legal c.requires.goes_by
+    (Begin c.last_of-segment.result.id (Append c.in_ok-copy.copy)) (t.seen c.turn.new.self) c.args.going.now c.in-Memory.ensures.turn refl (λ i u. tt)
 
 pub unreachable-requires : goal.unreachable-requires
 unreachable-requires g c = begin_answers _ _ _ _ _ _ _ c.turn.ensures.turn c.in_default.not-Begun c.in_default.not-Full c.in_default.not-Memory
+
+pub returns-in_err-copy-clause-silent : goal.returns-in_err-copy-clause-silent
+returns-in_err-copy-clause-silent g c = none_refl _ _
+
+pub returns-in-Begun-clause-silent : goal.returns-in-Begun-clause-silent
+returns-in-Begun-clause-silent g c = turn_silent _ _ _ _ _ _ c.in-Begun.ensures.turn refl
+
+pub returns-in-Full-clause-silent : goal.returns-in-Full-clause-silent
+returns-in-Full-clause-silent g c = turn_silent _ _ _ _ _ _ c.in-Full.ensures.turn refl
+
+pub returns-in-Memory-clause-silent : goal.returns-in-Memory-clause-silent
+returns-in-Memory-clause-silent g c = turn_silent _ _ _ _ _ _ c.in-Memory.ensures.turn refl

@@ -1,11 +1,11 @@
-use Rattle.std.proofs.Common.{◌∙◌, true, refl, sym, subst, arith}
+use Rattle.std.proofs.Common.{◌∙◌, refl, sym, subst, arith}
 use Rattle.delos_types.specs.declared.entry.Entry.{Entry}
 use Rattle.delos_types.specs.Spelling.{IsSpellable}
 use Rattle.loglet_api.specs.declared.call.Op.TheVariants.{Append}
 use Rattle.virtual_log.proofs.OneTurn.{turn_later}
 use Rattle.virtual_log.proofs.Appending.{may_append, started_within}
 use Rattle.virtual_log.proofs.Going.{last_there, goes_later}
-use Rattle.virtual_log.proofs.Saying.{turn_says}
+use Rattle.virtual_log.proofs.Saying.{turn_silent}
 use Rattle.virtual_log.proofs.Sealing.{turn_none}
 use Rattle.virtual_log.proofs.Calming.{turn_calm}
 use Rattle.virtual_log.proofs.Answering.{begin_answers}
@@ -35,7 +35,7 @@ returns-in-Begun-clause-going g c =
     let new = t.seen c.turn.new.self in
     let k = c.args.known.now in
     let s = c.last_of-segment.result in
-    starts_going p.law (λ _. true) who old k c.requires.legal c.requires.goes_by s c.in-Begun.ticket c.in_ok-copy.copy c.in_ok-kept.kept new c.last_of-segment.ensures
+    starts_going p.law who old k c.requires.legal c.requires.goes_by s c.in-Begun.ticket c.in_ok-copy.copy c.in_ok-kept.kept new c.last_of-segment.ensures
     (c.in_ok-copy.ensures.cases ∙ sym c.in_ok-kept.ensures.cases)
     (subst (λ (e : Entry). p.law.may who e) (sym c.in_ok-kept.ensures.cases) c.requires.may)
     (subst IsSpellable (sym c.in_ok-kept.ensures.cases) c.requires.spelled)
@@ -50,7 +50,7 @@ returns-in-Begun-clause-others g c = λ early other x.
     let new = t.seen c.turn.new.self in
     let k = c.args.known.now in
     let s = c.last_of-segment.result in
-    begin_others p.law (λ _. true) who old k c.requires.legal c.requires.goes_by s.id c.in-Begun.ticket (Append c.in_ok-copy.copy) new c.in-Begun.ensures.turn early other x
+    begin_others p.law who old k c.requires.legal c.requires.goes_by s.id c.in-Begun.ticket (Append c.in_ok-copy.copy) new c.in-Begun.ensures.turn early other x
 
 pub returns-in-Begun-clause-goes_by : goal.returns-in-Begun-clause-goes_by
 returns-in-Begun-clause-goes_by g c =
@@ -63,8 +63,8 @@ returns-in-Begun-clause-goes_by g c =
     let s = c.last_of-segment.result in
     goes_later p.law old new k.version k.tail k.chain (turn_later p.law who old _ _ new c.in-Begun.ensures.turn) c.requires.goes_by
 
-pub returns-in-Begun-clause-words : goal.returns-in-Begun-clause-words
-returns-in-Begun-clause-words g c = λ words. turn_says _ _ _ words _ _ _ c.in-Begun.ensures.turn tt
+pub returns-in-Begun-clause-silent : goal.returns-in-Begun-clause-silent
+returns-in-Begun-clause-silent g c = turn_silent _ _ _ _ _ _ c.in-Begun.ensures.turn refl
 
 pub returns-in-Begun-clause-unsealed : goal.returns-in-Begun-clause-unsealed
 returns-in-Begun-clause-unsealed g c = turn_none _ _ _ _ _ _ c.in-Begun.ensures.turn refl
@@ -91,8 +91,8 @@ returns-in-Full-clause-others g c = λ early other x.
     let s = c.last_of-segment.result in
     (turn_going p.law who old _ _ new c.in-Full.ensures.turn early k.chain k.chain other (omega arith) (λ i u _. tt) x, tt)
 
-pub returns-in-Full-clause-words : goal.returns-in-Full-clause-words
-returns-in-Full-clause-words g c = λ words. turn_says _ _ _ words _ _ _ c.in-Full.ensures.turn tt
+pub returns-in-Full-clause-silent : goal.returns-in-Full-clause-silent
+returns-in-Full-clause-silent g c = turn_silent _ _ _ _ _ _ c.in-Full.ensures.turn refl
 
 pub returns-in-Full-clause-unsealed : goal.returns-in-Full-clause-unsealed
 returns-in-Full-clause-unsealed g c = turn_none _ _ _ _ _ _ c.in-Full.ensures.turn refl
@@ -119,8 +119,8 @@ returns-in-Memory-clause-others g c = λ early other x.
     let s = c.last_of-segment.result in
     (turn_going p.law who old _ _ new c.in-Memory.ensures.turn early k.chain k.chain other (omega arith) (λ i u _. tt) x, tt)
 
-pub returns-in-Memory-clause-words : goal.returns-in-Memory-clause-words
-returns-in-Memory-clause-words g c = λ words. turn_says _ _ _ words _ _ _ c.in-Memory.ensures.turn tt
+pub returns-in-Memory-clause-silent : goal.returns-in-Memory-clause-silent
+returns-in-Memory-clause-silent g c = turn_silent _ _ _ _ _ _ c.in-Memory.ensures.turn refl
 
 pub returns-in-Memory-clause-unsealed : goal.returns-in-Memory-clause-unsealed
 returns-in-Memory-clause-unsealed g c = turn_none _ _ _ _ _ _ c.in-Memory.ensures.turn refl

@@ -9,7 +9,7 @@ use Rattle.virtual_log.specs.Causes.{HasCause}
 use Rattle.virtual_log.proofs.OneTurn.{nil, later_refl, later_trans, cause_since}
 use Rattle.virtual_log.proofs.Writing.{wrote_refl, wrote_trans, wrote_by}
 use Rattle.virtual_log.proofs.Sealing.{seals_refl, seals_then}
-use Rattle.virtual_log.proofs.Saying.{says_refl, says_then}
+use Rattle.virtual_log.proofs.Saying.{none_refl, none_then}
 use Rattle.virtual_log.proofs.Calming.{calm_refl, calm_then}
 use Rattle.virtual_log.proofs.Going.{goes_later}
 use Rattle.virtual_log.proofs.Changing.{granted_later, is_chain, admits, may_change, changed_has, changed_goes, changed_made, lost_goes, lost_later, lost, lacks_still, settled_since, changed_rises, lost_rises}
@@ -87,7 +87,7 @@ returns-in_err-version-clause-silent g c =
     let old = t.seen c.args.turns.now in
     let user = t.who l.turns in
     let new = t.seen c.write_over.new.turns in
-    λ words. says_then words who user old now new i.who (i.silent words) (c.in_err-version.ensures.silent words)
+    none_then who user old now new i.who i.silent c.in_err-version.ensures.silent
 
 pub returns-in_err-version-clause-err : goal.returns-in_err-version-clause-err
 returns-in_err-version-clause-err g c =
@@ -190,7 +190,7 @@ returns-in-Written-clause-silent g c =
     let old = t.seen c.args.turns.now in
     let user = t.who l.turns in
     let new = t.seen c.write_over.new.turns in
-    λ words. says_then words who user old now new i.who (i.silent words) (c.in_ok-version.ensures.silent words)
+    none_then who user old now new i.who i.silent c.in_ok-version.ensures.silent
 
 pub returns-in-Written-clause-calm : goal.returns-in-Written-clause-calm
 returns-in-Written-clause-calm g c =
@@ -263,7 +263,7 @@ returns-then-is_in-clause-silent g c =
     let old = t.seen c.args.turns.now in
     let user = t.who l.turns in
     let new = t.seen c.write_over.new.turns in
-    λ words. says_then words who user old now new i.who (i.silent words) (c.in_ok-version.ensures.silent words)
+    none_then who user old now new i.who i.silent c.in_ok-version.ensures.silent
 
 pub returns-then-is_in-clause-calm : goal.returns-then-is_in-clause-calm
 returns-then-is_in-clause-calm g c =
@@ -320,7 +320,7 @@ write-preserved g c =
       quiet = wrote_trans who old now new i.quiet (wrote_by who user now new i.who (lost p.law (t.who l.turns) now k.version k.tail k.chain i.later.legal i.goes_by c.in-Conflict.version c.in_ok-next.next c.in-Conflict.chain new turn).quiet);
       unsealed = seals_then who user old now new i.who i.unsealed c.in_ok-version.ensures.unsealed;
       idle = idle_then who user old now new i.who i.idle c.in_ok-version.ensures.idle;
-      silent = λ words. says_then words who user old now new i.who (i.silent words) (c.in_ok-version.ensures.silent words);
+      silent = none_then who user old now new i.who i.silent c.in_ok-version.ensures.silent;
       calm = calm_then who user old now new i.who i.calm c.in_ok-version.ensures.calm;
       closes = operates_then who user old now new i.who i.closes c.in_ok-version.ensures.closes;
     }
@@ -342,7 +342,7 @@ write-init g c =
       quiet = wrote_refl who old (nil old);
       unsealed = seals_refl who old;
       idle = idle_refl who old;
-      silent = λ words. says_refl words who old;
+      silent = none_refl who old;
       calm = calm_refl who old;
       closes = operates_refl who None old;
     }

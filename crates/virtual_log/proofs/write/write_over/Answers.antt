@@ -1,6 +1,6 @@
 use Rattle.std.proofs.Common.{refl, None}
 use Rattle.virtual_log.proofs.Sealing.{turn_none}
-use Rattle.virtual_log.proofs.Saying.{turn_says}
+use Rattle.virtual_log.proofs.Saying.{turn_silent}
 use Rattle.virtual_log.proofs.Calming.{turn_calm}
 use Rattle.virtual_log.proofs.Answering.{write_answers}
 use Rattle.virtual_log.proofs.Operating.{turn_keeps}
@@ -23,19 +23,19 @@ pub returns-in-Memory-clause-unsealed : goal.returns-in-Memory-clause-unsealed
 returns-in-Memory-clause-unsealed g c = turn_none _ _ _ _ _ _ c.in-Memory.ensures.turn refl
 
 pub returns-in-Written-clause-silent : goal.returns-in-Written-clause-silent
-returns-in-Written-clause-silent g c = λ words. turn_says _ _ _ words _ _ _ c.in-Written.ensures.turn tt
+returns-in-Written-clause-silent g c = turn_silent _ _ _ _ _ _ c.in-Written.ensures.turn refl
 
 pub returns-in-Conflict-clause-silent : goal.returns-in-Conflict-clause-silent
-returns-in-Conflict-clause-silent g c = λ words. turn_says _ _ _ words _ _ _ c.in-Conflict.ensures.turn tt
+returns-in-Conflict-clause-silent g c = turn_silent _ _ _ _ _ _ c.in-Conflict.ensures.turn refl
 
 pub returns-in-MetaFault-clause-silent : goal.returns-in-MetaFault-clause-silent
-returns-in-MetaFault-clause-silent g c = λ words. turn_says _ _ _ words _ _ _ c.in-MetaFault.ensures.turn tt
+returns-in-MetaFault-clause-silent g c = turn_silent _ _ _ _ _ _ c.in-MetaFault.ensures.turn refl
 
 pub returns-in-Down-clause-silent : goal.returns-in-Down-clause-silent
-returns-in-Down-clause-silent g c = λ words. turn_says _ _ _ words _ _ _ c.in-Down.ensures.turn tt
+returns-in-Down-clause-silent g c = turn_silent _ _ _ _ _ _ c.in-Down.ensures.turn refl
 
 pub returns-in-Memory-clause-silent : goal.returns-in-Memory-clause-silent
-returns-in-Memory-clause-silent g c = λ words. turn_says _ _ _ words _ _ _ c.in-Memory.ensures.turn tt
+returns-in-Memory-clause-silent g c = turn_silent _ _ _ _ _ _ c.in-Memory.ensures.turn refl
 
 pub returns-in-Written-clause-calm : goal.returns-in-Written-clause-calm
 returns-in-Written-clause-calm g c = turn_calm _ _ _ _ _ _ c.in-Written.ensures.turn tt
