@@ -1,5 +1,5 @@
 //! Single turns, and operations that are carried to their end.
-ghost use Rattle.std.specs.Prelude.{◌≡◌, ◌<◌, false, length, IfOk, OnOk, IfErr, OnErr, Option, None, Some};
+ghost use Rattle.std.specs.Prelude.{◌≡◌, ◌<◌, ◌^◌, ℕ, false, length, IfOk, OnOk, IfErr, OnErr, Option, None, Some};
 ghost use Rattle.delos_types.specs.declared.entry.Entry.{Entry};
 ghost use Rattle.legal_journal.specs.Told.{Running};
 ghost use Rattle.legal_journal.specs.Journal.{state_of, IsOwn, IsLegal};
@@ -94,6 +94,22 @@ pub fn forget<T: Turns>(turns: &mut T, cell: u32, ticket: Ticket) -> bool
     }
 }
 
+/// Carries an operation by one turn, with the chooser's next word.
+pub fn carry<T: Turns, C: Chooser>(
+    turns: &mut T,
+    chooser: &mut C,
+    cell: u32,
+    ticket: Ticket,
+) -> FabricAnswer
+    requires may { (word : ℕ) → MayTurn T.Law.law (T.who turns.old) (T.seen turns.old) (FabricCall.Carry cell ticket word) }
+    ensures who { T.who turns.new ≡ T.who turns.old }
+    ensures turn { (word : ℕ) × C.gives (C.at chooser.old) word (C.at chooser.new) × (word < 2 ^ 64)
+        × IsTurn T.Law.law (T.who turns.old) (T.seen turns.old) (FabricCall.Carry cell ticket word) result (T.seen turns.new) }
+{
+    let word = chooser.word();
+    turns.turn(FabricCall::Carry(cell, ticket, word))
+}
+
 /// Carries an open operation to its end. Each carry takes the chooser's next word. An operation that want of memory
 /// leaves is closed, unless memory is wanting for that too.
 pub fn carry_on<T: Turns, C: Chooser>(
@@ -121,8 +137,7 @@ pub fn carry_on<T: Turns, C: Chooser>(
     ensures left { OnErr result ((left : Option Operation) × Operates (T.who turns.old) (Some (record { loglet = cell; ticket = ticket })) left (T.seen turns.old) (T.seen turns.new)) }
 {
     loop {
-        let word = chooser.word();
-        match turns.turn(FabricCall::Carry(cell, ticket, word)) {
+        match carry(turns, chooser, cell, ticket) {
             FabricAnswer::Done(answer) => return Ok(answer),
             FabricAnswer::Going => {}
             FabricAnswer::Memory => {

@@ -143,8 +143,7 @@ fn carry_append<T: Turns, C: Chooser>(
     ensures went { Went T.Law.law (T.who turns.old) (T.seen turns.old) known.old going.old
         (T.seen turns.new) known.new going.new result }
 {
-    let word = chooser.word();
-    match turns.turn(FabricCall::Carry(segment.id, ticket, word)) {
+    match turn::carry(turns, chooser, segment.id, ticket) {
         FabricAnswer::Going => Ok(None),
         FabricAnswer::Done(answer) => match answer {
             Answer::Placed(place) => {
@@ -246,8 +245,7 @@ fn find<T: Turns, C: Chooser>(
     ensures went { Went T.Law.law (T.who turns.old) (T.seen turns.old) known.now going.old
         (T.seen turns.new) known.now going.new result }
 {
-    let word = chooser.word();
-    match turns.turn(FabricCall::Carry(segment.id, ticket, word)) {
+    match turn::carry(turns, chooser, segment.id, ticket) {
         FabricAnswer::Going => Ok(None),
         FabricAnswer::Done(answer) => match answer {
             Answer::SealedTail(length) => {

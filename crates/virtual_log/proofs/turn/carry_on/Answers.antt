@@ -16,22 +16,24 @@ use Rattle.virtual_log.proofs.Operating.{operates_refl, operates_then, turn_hand
 use Rattle.virtual_log.proofs.Attempts.{turn_idles, turn_answers, idle_refl, idle_then, carried_then}
 use Rattle.virtual_log.proofs.turn.carry_on.Goals as goal
 
-pub turn-requires-clause-may : goal.turn-requires-clause-may
-turn-requires-clause-may g c =
+pub carry-requires : goal.carry-requires
+carry-requires g c =
     let t = g.T.Turns in
     let p = g.T.Law.Rules in
     let l = c.loop-answer in
     let r = c.requires.own.0 in
-    may_carry p.law (t.who l.turns) (t.seen l.turns) (t.seen l.turns) c.args.cell c.args.ticket _ r c.requires.cell l.invariant.later.legal
-    (subst (λ k. IsOwn ((state_of (t.seen l.turns)).cells c.args.cell) k c.args.ticket r) (sym l.invariant.who) (l.invariant.own r c.requires.own.1))
+    record {
+      may = λ word. may_carry p.law (t.who l.turns) (t.seen l.turns) (t.seen l.turns) c.args.cell c.args.ticket word r c.requires.cell l.invariant.later.legal
+          (subst (λ k. IsOwn ((state_of (t.seen l.turns)).cells c.args.cell) k c.args.ticket r) (sym l.invariant.who) (l.invariant.own r c.requires.own.1));
+    }
 
 pub returns-in-Done-clause-ok : goal.returns-in-Done-clause-ok
 returns-in-Done-clause-ok g c = λ r h.
     let t = g.T.Turns in
     let p = g.T.Law.Rules in
     let l = c.loop-answer in
-    let now = t.seen c.turn.new.self in
-    let done = done_ok p.law (t.who l.turns) (t.seen l.turns) now c.args.cell c.args.ticket _ r c.in-Done.answer l.invariant.later.legal c.in-Done.ensures.turn
+    let now = t.seen c.carry.new.turns in
+    let done = done_ok p.law (t.who l.turns) (t.seen l.turns) now c.args.cell c.args.ticket _ r c.in-Done.answer l.invariant.later.legal c.in-Done.ensures.turn.3
     (subst (λ k. IsOwn ((state_of (t.seen l.turns)).cells c.args.cell) k c.args.ticket r) (sym l.invariant.who) (l.invariant.own r h)) in
     answered_since (t.who c.args.turns.now) (t.seen c.args.turns.now) (t.seen l.turns) now c.args.cell c.args.ticket r c.in-Done.answer l.invariant.later.more l.invariant.later.seen l.invariant.still
     (subst (λ k. Answered k (t.seen l.turns) c.args.cell c.args.ticket r c.in-Done.answer now) l.invariant.who done)
@@ -41,8 +43,8 @@ returns-in-Done-clause-quiet g c =
     let t = g.T.Turns in
     let p = g.T.Law.Rules in
     let l = c.loop-answer in
-    let turn = c.in-Done.ensures.turn in
-    wrote_trans (t.who c.args.turns.now) (t.seen c.args.turns.now) (t.seen l.turns) (t.seen c.turn.new.self) l.invariant.quiet
+    let turn = c.in-Done.ensures.turn.3 in
+    wrote_trans (t.who c.args.turns.now) (t.seen c.args.turns.now) (t.seen l.turns) (t.seen c.carry.new.turns) l.invariant.quiet
     (wrote_by _ _ _ _ l.invariant.who (turn_wrote p.law _ _ _ _ _ turn turn.event refl))
 
 pub loop-answer-smaller : goal.loop-answer-smaller
@@ -51,7 +53,7 @@ loop-answer-smaller g c =
     let p = g.T.Law.Rules in
     let l = c.loop-answer in
     let r = c.requires.own.0 in
-    let k = going_ok p.law (t.who l.turns) (t.seen l.turns) (t.seen c.turn.new.self) c.args.cell c.args.ticket _ r l.invariant.later.legal c.in-Going.ensures.turn
+    let k = going_ok p.law (t.who l.turns) (t.seen l.turns) (t.seen c.carry.new.turns) c.args.cell c.args.ticket _ r l.invariant.later.legal c.in-Going.ensures.turn.3
     (subst (λ x. IsOwn ((state_of (t.seen l.turns)).cells c.args.cell) x c.args.ticket r) (sym l.invariant.who) (l.invariant.own r c.requires.own.1)) in
     omega (arith, k.1.0, k.1.1)
 
@@ -61,30 +63,30 @@ loop-answer-preserved g c =
     let p = g.T.Law.Rules in
     let l = c.loop-answer in
     record {
-      later = later_trans p.law (t.seen c.args.turns.now) (t.seen l.turns) (t.seen c.turn.new.self) l.invariant.later (turn_later p.law _ _ _ _ _ c.in-Going.ensures.turn);
-      who = c.turn.ensures.who ∙ l.invariant.who;
-      quiet = wrote_trans (t.who c.args.turns.now) (t.seen c.args.turns.now) (t.seen l.turns) (t.seen c.turn.new.self) l.invariant.quiet
-          (wrote_by _ _ _ _ l.invariant.who (turn_wrote p.law _ _ _ _ _ c.in-Going.ensures.turn c.in-Going.ensures.turn.event refl));
-      unsealed = seals_trans (t.who c.args.turns.now) (t.seen c.args.turns.now) (t.seen l.turns) (t.seen c.turn.new.self) l.invariant.unsealed
-          (seals_as _ _ _ _ l.invariant.who (turn_none p.law _ _ _ _ _ c.in-Going.ensures.turn refl));
-      idle = idle_then (t.who c.args.turns.now) (t.who l.turns) (t.seen c.args.turns.now) (t.seen l.turns) (t.seen c.turn.new.self) l.invariant.who l.invariant.idle
-          (turn_idles p.law _ _ _ _ _ c.in-Going.ensures.turn refl refl (λ _. tt));
-      calm = calm_then (t.who c.args.turns.now) (t.who l.turns) (t.seen c.args.turns.now) (t.seen l.turns) (t.seen c.turn.new.self) l.invariant.who l.invariant.calm
-          (turn_calm p.law _ _ _ _ _ c.in-Going.ensures.turn tt);
-      closes = operates_then (t.who c.args.turns.now) (t.who l.turns) (t.seen c.args.turns.now) (t.seen l.turns) (t.seen c.turn.new.self) l.invariant.who l.invariant.closes
-          (turn_keeps p.law (t.who l.turns) (t.seen l.turns) (Some (record { loglet = c.args.cell; ticket = c.args.ticket })) _ _ _ c.in-Going.ensures.turn (refl, refl, refl));
-      draws = drawn_then (t.who c.args.turns.now) (t.who l.turns) (t.seen c.args.turns.now) (t.seen l.turns) (t.seen c.turn.new.self) l.invariant.who l.invariant.draws
-          (turn_draws p.law (t.who l.turns) (t.seen l.turns) _ _ _ _ _ c.in-Going.ensures.turn c.in-Going.ensures.turn.event c.word-word.ensures.given (omega arith));
+      later = later_trans p.law (t.seen c.args.turns.now) (t.seen l.turns) (t.seen c.carry.new.turns) l.invariant.later (turn_later p.law _ _ _ _ _ c.in-Going.ensures.turn.3);
+      who = c.carry.ensures.who ∙ l.invariant.who;
+      quiet = wrote_trans (t.who c.args.turns.now) (t.seen c.args.turns.now) (t.seen l.turns) (t.seen c.carry.new.turns) l.invariant.quiet
+          (wrote_by _ _ _ _ l.invariant.who (turn_wrote p.law _ _ _ _ _ c.in-Going.ensures.turn.3 c.in-Going.ensures.turn.3.event refl));
+      unsealed = seals_trans (t.who c.args.turns.now) (t.seen c.args.turns.now) (t.seen l.turns) (t.seen c.carry.new.turns) l.invariant.unsealed
+          (seals_as _ _ _ _ l.invariant.who (turn_none p.law _ _ _ _ _ c.in-Going.ensures.turn.3 refl));
+      idle = idle_then (t.who c.args.turns.now) (t.who l.turns) (t.seen c.args.turns.now) (t.seen l.turns) (t.seen c.carry.new.turns) l.invariant.who l.invariant.idle
+          (turn_idles p.law _ _ _ _ _ c.in-Going.ensures.turn.3 refl refl (λ _. tt));
+      calm = calm_then (t.who c.args.turns.now) (t.who l.turns) (t.seen c.args.turns.now) (t.seen l.turns) (t.seen c.carry.new.turns) l.invariant.who l.invariant.calm
+          (turn_calm p.law _ _ _ _ _ c.in-Going.ensures.turn.3 tt);
+      closes = operates_then (t.who c.args.turns.now) (t.who l.turns) (t.seen c.args.turns.now) (t.seen l.turns) (t.seen c.carry.new.turns) l.invariant.who l.invariant.closes
+          (turn_keeps p.law (t.who l.turns) (t.seen l.turns) (Some (record { loglet = c.args.cell; ticket = c.args.ticket })) _ _ _ c.in-Going.ensures.turn.3 (refl, refl, refl));
+      draws = drawn_then (t.who c.args.turns.now) (t.who l.turns) (t.seen c.args.turns.now) (t.seen l.turns) (t.seen c.carry.new.turns) l.invariant.who l.invariant.draws
+          (turn_draws p.law (t.who l.turns) (t.seen l.turns) _ _ _ _ _ c.in-Going.ensures.turn.3 c.in-Going.ensures.turn.3.event c.in-Going.ensures.turn.1 c.in-Going.ensures.turn.2);
       own = λ r h.
-          subst (λ x. IsOwn ((state_of (t.seen c.turn.new.self)).cells c.args.cell) x c.args.ticket r) l.invariant.who
-          (going_ok p.law (t.who l.turns) (t.seen l.turns) (t.seen c.turn.new.self) c.args.cell c.args.ticket _ r l.invariant.later.legal c.in-Going.ensures.turn
+          subst (λ x. IsOwn ((state_of (t.seen c.carry.new.turns)).cells c.args.cell) x c.args.ticket r) l.invariant.who
+          (going_ok p.law (t.who l.turns) (t.seen l.turns) (t.seen c.carry.new.turns) c.args.cell c.args.ticket _ r l.invariant.later.legal c.in-Going.ensures.turn.3
           (subst (λ x. IsOwn ((state_of (t.seen l.turns)).cells c.args.cell) x c.args.ticket r) (sym l.invariant.who) (l.invariant.own r h))).0;
       still = λ alone.
-          let turn = c.in-Going.ensures.turn in
-          let parts = own_split (t.who c.args.turns.now) (t.seen c.args.turns.now) (t.seen l.turns) (t.seen c.turn.new.self) l.invariant.later.more (turn.others ++ turn.own) l.invariant.later.seen (turn.seen ∙ append_assoc (t.seen l.turns) turn.others turn.own) alone in
-          still_trans (state_of (t.seen c.args.turns.now)) (state_of (t.seen l.turns)) (state_of (t.seen c.turn.new.self)) (l.invariant.still parts.0)
-          (going_still p.law (t.who l.turns) (t.seen l.turns) (t.seen c.turn.new.self) c.args.cell c.args.ticket _ turn
-          (subst (λ w. OnlyOwn w (t.seen l.turns) (t.seen c.turn.new.self)) (sym l.invariant.who) parts.1));
+          let turn = c.in-Going.ensures.turn.3 in
+          let parts = own_split (t.who c.args.turns.now) (t.seen c.args.turns.now) (t.seen l.turns) (t.seen c.carry.new.turns) l.invariant.later.more (turn.others ++ turn.own) l.invariant.later.seen (turn.seen ∙ append_assoc (t.seen l.turns) turn.others turn.own) alone in
+          still_trans (state_of (t.seen c.args.turns.now)) (state_of (t.seen l.turns)) (state_of (t.seen c.carry.new.turns)) (l.invariant.still parts.0)
+          (going_still p.law (t.who l.turns) (t.seen l.turns) (t.seen c.carry.new.turns) c.args.cell c.args.ticket _ turn
+          (subst (λ w. OnlyOwn w (t.seen l.turns) (t.seen c.carry.new.turns)) (sym l.invariant.who) parts.1));
     }
 
 pub loop-answer-init : goal.loop-answer-init
@@ -110,24 +112,24 @@ returns-in-Done-clause-unsealed g c =
     let t = g.T.Turns in
     let p = g.T.Law.Rules in
     let l = c.loop-answer in
-    seals_trans (t.who c.args.turns.now) (t.seen c.args.turns.now) (t.seen l.turns) (t.seen c.turn.new.self) l.invariant.unsealed
-    (seals_as _ _ _ _ l.invariant.who (turn_none p.law _ _ _ _ _ c.in-Done.ensures.turn refl))
+    seals_trans (t.who c.args.turns.now) (t.seen c.args.turns.now) (t.seen l.turns) (t.seen c.carry.new.turns) l.invariant.unsealed
+    (seals_as _ _ _ _ l.invariant.who (turn_none p.law _ _ _ _ _ c.in-Done.ensures.turn.3 refl))
 
 pub returns-in-Done-clause-draws : goal.returns-in-Done-clause-draws
 returns-in-Done-clause-draws g c =
     let t = g.T.Turns in
     let p = g.T.Law.Rules in
     let l = c.loop-answer in
-    drawn_then (t.who c.args.turns.now) (t.who l.turns) (t.seen c.args.turns.now) (t.seen l.turns) (t.seen c.turn.new.self) l.invariant.who l.invariant.draws
-    (turn_draws p.law (t.who l.turns) (t.seen l.turns) _ _ _ _ _ c.in-Done.ensures.turn c.in-Done.ensures.turn.event c.word-word.ensures.given (omega arith))
+    drawn_then (t.who c.args.turns.now) (t.who l.turns) (t.seen c.args.turns.now) (t.seen l.turns) (t.seen c.carry.new.turns) l.invariant.who l.invariant.draws
+    (turn_draws p.law (t.who l.turns) (t.seen l.turns) _ _ _ _ _ c.in-Done.ensures.turn.3 c.in-Done.ensures.turn.3.event c.in-Done.ensures.turn.1 c.in-Done.ensures.turn.2)
 
 pub returns-in-Done-clause-calm : goal.returns-in-Done-clause-calm
 returns-in-Done-clause-calm g c = λ is.
     let t = g.T.Turns in
     let p = g.T.Law.Rules in
     let l = c.loop-answer in
-    calm_then (t.who c.args.turns.now) (t.who l.turns) (t.seen c.args.turns.now) (t.seen l.turns) (t.seen c.turn.new.self) l.invariant.who l.invariant.calm
-    (turn_calm p.law _ _ _ _ _ c.in-Done.ensures.turn is)
+    calm_then (t.who c.args.turns.now) (t.who l.turns) (t.seen c.args.turns.now) (t.seen l.turns) (t.seen c.carry.new.turns) l.invariant.who l.invariant.calm
+    (turn_calm p.law _ _ _ _ _ c.in-Done.ensures.turn.3 is)
 
 pub unreachable-requires : goal.unreachable-requires
 unreachable-requires g c =
@@ -135,9 +137,9 @@ unreachable-requires g c =
     let p = g.T.Law.Rules in
     let l = c.loop-answer in
     let r = c.requires.own.0 in
-    carry_answers p.law (t.who l.turns) (t.seen l.turns) (t.seen c.turn.new.self) c.args.cell c.args.ticket _ r _ l.invariant.later.legal
+    carry_answers p.law (t.who l.turns) (t.seen l.turns) (t.seen c.carry.new.turns) c.args.cell c.args.ticket _ r _ l.invariant.later.legal
     (subst (λ k. IsOwn ((state_of (t.seen l.turns)).cells c.args.cell) k c.args.ticket r) (sym l.invariant.who) (l.invariant.own r c.requires.own.1))
-    c.turn.ensures.turn c.in_default.not-Done c.in_default.not-Going c.in_default.not-Memory
+    c.carry.ensures.turn.3 c.in_default.not-Done c.in_default.not-Going c.in_default.not-Memory
 
 pub forget-requires : goal.forget-requires
 forget-requires g c =
@@ -145,11 +147,11 @@ forget-requires g c =
     let p = g.T.Law.Rules in
     let l = c.loop-answer in
     let r = c.requires.own.0 in
-    let mid = t.seen c.turn.new.self in
+    let mid = t.seen c.carry.new.turns in
     record {
-      may = subst (λ w. MayTurn p.law w mid (Forget c.args.cell c.args.ticket)) (sym c.turn.ensures.who)
+      may = subst (λ w. MayTurn p.law w mid (Forget c.args.cell c.args.ticket)) (sym c.carry.ensures.who)
           (may_drop p.law (t.who l.turns) (t.seen l.turns) mid c.args.cell c.args.ticket r c.requires.cell l.invariant.later.legal
-          (turn_later p.law _ _ _ _ _ c.in-Memory.ensures.turn)
+          (turn_later p.law _ _ _ _ _ c.in-Memory.ensures.turn.3)
           (subst (λ k. IsOwn ((state_of (t.seen l.turns)).cells c.args.cell) k c.args.ticket r) (sym l.invariant.who) (l.invariant.own r c.requires.own.1)));
     }
 
@@ -158,31 +160,31 @@ returns-in-Memory-clause-later g c =
     let t = g.T.Turns in
     let p = g.T.Law.Rules in
     let l = c.loop-answer in
-    later_trans p.law (t.seen c.args.turns.now) (t.seen c.turn.new.self) (t.seen c.forget.new.turns)
-    (later_trans p.law (t.seen c.args.turns.now) (t.seen l.turns) (t.seen c.turn.new.self) l.invariant.later (turn_later p.law _ _ _ _ _ c.in-Memory.ensures.turn))
+    later_trans p.law (t.seen c.args.turns.now) (t.seen c.carry.new.turns) (t.seen c.forget.new.turns)
+    (later_trans p.law (t.seen c.args.turns.now) (t.seen l.turns) (t.seen c.carry.new.turns) l.invariant.later (turn_later p.law _ _ _ _ _ c.in-Memory.ensures.turn.3))
     c.forget.ensures.later
 
 pub returns-in-Memory-clause-who : goal.returns-in-Memory-clause-who
-returns-in-Memory-clause-who g c = c.forget.ensures.who ∙ (c.turn.ensures.who ∙ c.loop-answer.invariant.who)
+returns-in-Memory-clause-who g c = c.forget.ensures.who ∙ (c.carry.ensures.who ∙ c.loop-answer.invariant.who)
 
 pub returns-in-Memory-clause-unsealed : goal.returns-in-Memory-clause-unsealed
 returns-in-Memory-clause-unsealed g c =
     let t = g.T.Turns in
     let p = g.T.Law.Rules in
     let l = c.loop-answer in
-    seals_trans (t.who c.args.turns.now) (t.seen c.args.turns.now) (t.seen c.turn.new.self) (t.seen c.forget.new.turns)
-    (seals_trans (t.who c.args.turns.now) (t.seen c.args.turns.now) (t.seen l.turns) (t.seen c.turn.new.self) l.invariant.unsealed
-    (seals_as _ _ _ _ l.invariant.who (turn_none p.law _ _ _ _ _ c.in-Memory.ensures.turn refl)))
-    (seals_as _ _ _ _ (c.turn.ensures.who ∙ l.invariant.who) c.forget.ensures.unsealed)
+    seals_trans (t.who c.args.turns.now) (t.seen c.args.turns.now) (t.seen c.carry.new.turns) (t.seen c.forget.new.turns)
+    (seals_trans (t.who c.args.turns.now) (t.seen c.args.turns.now) (t.seen l.turns) (t.seen c.carry.new.turns) l.invariant.unsealed
+    (seals_as _ _ _ _ l.invariant.who (turn_none p.law _ _ _ _ _ c.in-Memory.ensures.turn.3 refl)))
+    (seals_as _ _ _ _ (c.carry.ensures.who ∙ l.invariant.who) c.forget.ensures.unsealed)
 
 pub returns-in-Memory-clause-spares : goal.returns-in-Memory-clause-spares
 returns-in-Memory-clause-spares g c =
     let t = g.T.Turns in
     let p = g.T.Law.Rules in
     let l = c.loop-answer in
-    spares_on (t.who c.args.turns.now) (t.who c.turn.new.self) (t.seen c.args.turns.now) (t.seen c.turn.new.self) (t.seen c.forget.new.turns) (c.turn.ensures.who ∙ l.invariant.who)
-    (spares_then (t.who c.args.turns.now) (t.who l.turns) (t.seen c.args.turns.now) (t.seen l.turns) (t.seen c.turn.new.self) l.invariant.who l.invariant.draws
-    (turn_spares p.law (t.who l.turns) (t.seen l.turns) _ _ _ _ c.in-Memory.ensures.turn c.word-word.ensures.given (omega arith)))
+    spares_on (t.who c.args.turns.now) (t.who c.carry.new.turns) (t.seen c.args.turns.now) (t.seen c.carry.new.turns) (t.seen c.forget.new.turns) (c.carry.ensures.who ∙ l.invariant.who)
+    (spares_then (t.who c.args.turns.now) (t.who l.turns) (t.seen c.args.turns.now) (t.seen l.turns) (t.seen c.carry.new.turns) l.invariant.who l.invariant.draws
+    (turn_spares p.law (t.who l.turns) (t.seen l.turns) _ _ _ _ c.in-Memory.ensures.turn.3 c.in-Memory.ensures.turn.1 c.in-Memory.ensures.turn.2))
     c.forget.ensures.silent
 
 pub returns-in-Memory-clause-memory : goal.returns-in-Memory-clause-memory
@@ -190,9 +192,9 @@ returns-in-Memory-clause-memory g c =
     let t = g.T.Turns in
     let p = g.T.Law.Rules in
     let l = c.loop-answer in
-    calm_then (t.who c.args.turns.now) (t.who c.turn.new.self) (t.seen c.args.turns.now) (t.seen c.turn.new.self) (t.seen c.forget.new.turns) (c.turn.ensures.who ∙ l.invariant.who)
-    (calm_then (t.who c.args.turns.now) (t.who l.turns) (t.seen c.args.turns.now) (t.seen l.turns) (t.seen c.turn.new.self) l.invariant.who l.invariant.calm
-    (turn_calm p.law _ _ _ _ _ c.in-Memory.ensures.turn tt))
+    calm_then (t.who c.args.turns.now) (t.who c.carry.new.turns) (t.seen c.args.turns.now) (t.seen c.carry.new.turns) (t.seen c.forget.new.turns) (c.carry.ensures.who ∙ l.invariant.who)
+    (calm_then (t.who c.args.turns.now) (t.who l.turns) (t.seen c.args.turns.now) (t.seen l.turns) (t.seen c.carry.new.turns) l.invariant.who l.invariant.calm
+    (turn_calm p.law _ _ _ _ _ c.in-Memory.ensures.turn.3 tt))
     c.forget.ensures.calm
 
 pub returns-in-Done-clause-closes : goal.returns-in-Done-clause-closes
@@ -200,8 +202,8 @@ returns-in-Done-clause-closes g c =
     let t = g.T.Turns in
     let p = g.T.Law.Rules in
     let l = c.loop-answer in
-    let turn = c.in-Done.ensures.turn in
-    operates_then (t.who c.args.turns.now) (t.who l.turns) (t.seen c.args.turns.now) (t.seen l.turns) (t.seen c.turn.new.self) l.invariant.who l.invariant.closes
+    let turn = c.in-Done.ensures.turn.3 in
+    operates_then (t.who c.args.turns.now) (t.who l.turns) (t.seen c.args.turns.now) (t.seen l.turns) (t.seen c.carry.new.turns) l.invariant.who l.invariant.closes
     (turn_hands p.law (t.who l.turns) (t.seen l.turns) (Some (record { loglet = c.args.cell; ticket = c.args.ticket })) None _ _ _ turn turn.event (refl, refl, refl))
 
 pub returns-in-Memory-clause-left : goal.returns-in-Memory-clause-left
@@ -210,25 +212,25 @@ returns-in-Memory-clause-left g c =
     let p = g.T.Law.Rules in
     let l = c.loop-answer in
     let o : Operation = record { loglet = c.args.cell; ticket = c.args.ticket } in
-    let carried = operates_then (t.who c.args.turns.now) (t.who l.turns) (t.seen c.args.turns.now) (t.seen l.turns) (t.seen c.turn.new.self) l.invariant.who l.invariant.closes
-    (turn_keeps p.law (t.who l.turns) (t.seen l.turns) (Some o) _ _ _ c.in-Memory.ensures.turn (refl, refl, refl)) in
-    let left = turn_forgets p.law (t.who c.turn.new.self) (t.seen c.turn.new.self) o _ _ c.forget.ensures.turn.2 in
-    (left.0, operates_then (t.who c.args.turns.now) (t.who c.turn.new.self) (t.seen c.args.turns.now) (t.seen c.turn.new.self) (t.seen c.forget.new.turns) (c.turn.ensures.who ∙ l.invariant.who) carried left.1)
+    let carried = operates_then (t.who c.args.turns.now) (t.who l.turns) (t.seen c.args.turns.now) (t.seen l.turns) (t.seen c.carry.new.turns) l.invariant.who l.invariant.closes
+    (turn_keeps p.law (t.who l.turns) (t.seen l.turns) (Some o) _ _ _ c.in-Memory.ensures.turn.3 (refl, refl, refl)) in
+    let left = turn_forgets p.law (t.who c.carry.new.turns) (t.seen c.carry.new.turns) o _ _ c.forget.ensures.turn.2 in
+    (left.0, operates_then (t.who c.args.turns.now) (t.who c.carry.new.turns) (t.seen c.args.turns.now) (t.seen c.carry.new.turns) (t.seen c.forget.new.turns) (c.carry.ensures.who ∙ l.invariant.who) carried left.1)
 
 pub returns-in-Done-clause-refused : goal.returns-in-Done-clause-refused
 returns-in-Done-clause-refused g c = λ entry.
     let t = g.T.Turns in
     let p = g.T.Law.Rules in
     let l = c.loop-answer in
-    carried_then (t.who c.args.turns.now) (t.who l.turns) entry (refused_by c.in-Done.answer) (t.seen c.args.turns.now) (t.seen l.turns) (t.seen c.turn.new.self) l.invariant.who (l.invariant.idle entry)
-    (turn_answers p.law _ _ _ _ _ _ _ entry c.in-Done.ensures.turn)
+    carried_then (t.who c.args.turns.now) (t.who l.turns) entry (refused_by c.in-Done.answer) (t.seen c.args.turns.now) (t.seen l.turns) (t.seen c.carry.new.turns) l.invariant.who (l.invariant.idle entry)
+    (turn_answers p.law _ _ _ _ _ _ _ entry c.in-Done.ensures.turn.3)
 
 pub returns-in-Memory-clause-idle : goal.returns-in-Memory-clause-idle
 returns-in-Memory-clause-idle g c =
     let t = g.T.Turns in
     let p = g.T.Law.Rules in
     let l = c.loop-answer in
-    idle_then (t.who c.args.turns.now) (t.who c.turn.new.self) (t.seen c.args.turns.now) (t.seen c.turn.new.self) (t.seen c.forget.new.turns) (c.turn.ensures.who ∙ l.invariant.who)
-    (idle_then (t.who c.args.turns.now) (t.who l.turns) (t.seen c.args.turns.now) (t.seen l.turns) (t.seen c.turn.new.self) l.invariant.who l.invariant.idle
-    (turn_idles p.law _ _ _ _ _ c.in-Memory.ensures.turn refl refl (λ _. tt)))
+    idle_then (t.who c.args.turns.now) (t.who c.carry.new.turns) (t.seen c.args.turns.now) (t.seen c.carry.new.turns) (t.seen c.forget.new.turns) (c.carry.ensures.who ∙ l.invariant.who)
+    (idle_then (t.who c.args.turns.now) (t.who l.turns) (t.seen c.args.turns.now) (t.seen l.turns) (t.seen c.carry.new.turns) l.invariant.who l.invariant.idle
+    (turn_idles p.law _ _ _ _ _ c.in-Memory.ensures.turn.3 refl refl (λ _. tt)))
     c.forget.ensures.idle

@@ -13,8 +13,8 @@ use Rattle.virtual_log.proofs.Stepping.{at_step, went_by, went_still, going_by, 
 use Rattle.virtual_log.proofs.Saying.{spares_on, turn_draws, turn_silent, turn_spares}
 use Rattle.virtual_log.proofs.underway.find.Goals as goal
 
-pub turn-requires-clause-may : goal.turn-requires-clause-may
-turn-requires-clause-may g c =
+pub carry-requires : goal.carry-requires
+carry-requires g c =
     let p = g.T.Law.Rules in
     let t = g.T.Turns in
     let who = t.who c.args.turns.now in
@@ -23,9 +23,11 @@ turn-requires-clause-may g c =
     let s = c.args.segment in
     let going = c.args.going.now in
     let x = going_by going (Finding s c.args.ticket) c.requires.step c.requires.going.1 in
-    may_carry p.law who old old s.id c.args.ticket _ _
-    (started_within p.law old s.id s.start c.requires.legal (last_starts p.law old s c.requires.legal (x.at.shut.last)))
-    c.requires.legal x.at.own
+    record {
+      may = λ word. may_carry p.law who old old s.id c.args.ticket word _
+          (started_within p.law old s.id s.start c.requires.legal (last_starts p.law old s c.requires.legal (x.at.shut.last)))
+          c.requires.legal x.at.own;
+    }
 
 pub returns-in-Going-clause-went : goal.returns-in-Going-clause-went
 returns-in-Going-clause-went g c =
@@ -39,7 +41,7 @@ returns-in-Going-clause-went g c =
     let x = going_by going (Finding s c.args.ticket) c.requires.step c.requires.going.1 in
     went_still going (Finding s c.args.ticket) c.requires.step
     (find_going p.law who old k c.requires.legal c.requires.goes_by
-    s c.args.ticket c.word-word.result going.entry (t.seen c.turn.new.self) c.in-Going.ensures.turn)
+    s c.args.ticket c.in-Going.ensures.turn.0 going.entry (t.seen c.carry.new.turns) c.in-Going.ensures.turn.3)
 
 pub returns-in-NoQuorum-clause-went : goal.returns-in-NoQuorum-clause-went
 returns-in-NoQuorum-clause-went g c =
@@ -51,11 +53,11 @@ returns-in-NoQuorum-clause-went g c =
     let s = c.args.segment in
     let going = c.args.going.now in
     let x = going_by going (Finding s c.args.ticket) c.requires.step c.requires.going.1 in
-    let new = t.seen c.turn.new.self in
-    let turn = subst (λ (a : Answer). IsTurn p.law who old (Carry s.id c.args.ticket c.word-word.result) (fabric.Done a) new) c.in-NoQuorum.is c.in-Done.ensures.turn in
+    let new = t.seen c.carry.new.turns in
+    let turn = subst (λ (a : Answer). IsTurn p.law who old (Carry s.id c.args.ticket c.in-Done.ensures.turn.0) (fabric.Done a) new) c.in-NoQuorum.is c.in-Done.ensures.turn.3 in
     went_still going (Finding s c.args.ticket) c.requires.step
     (lacked p.law who old k c.requires.legal c.requires.goes_by
-    s.id c.args.ticket c.word-word.result c.in-NoQuorum.unreached new (at_step going.entry (Finding s c.args.ticket)) _ turn x.at.own (refl, refl))
+    s.id c.args.ticket c.in-Done.ensures.turn.0 c.in-NoQuorum.unreached new (at_step going.entry (Finding s c.args.ticket)) _ turn x.at.own (refl, refl))
 
 pub forget-going-requires-clause-dropping : goal.forget-going-requires-clause-dropping
 forget-going-requires-clause-dropping g c =
@@ -67,9 +69,9 @@ forget-going-requires-clause-dropping g c =
     let s = c.args.segment in
     let going = c.args.going.now in
     let x = going_by going (Finding s c.args.ticket) c.requires.step c.requires.going.1 in
-    let mid = t.seen c.turn.new.self in
+    let mid = t.seen c.carry.new.turns in
     let drop = dropping_of p.law who old s c.args.ticket _ c.requires.legal (x.at.shut.last) x.at.own in
-    subst (λ w. IsDropping w mid s.id c.args.ticket) (sym c.turn.ensures.who) (turn_dropping p.law who old _ _ mid c.in-Memory.ensures.turn s.id c.args.ticket drop)
+    subst (λ w. IsDropping w mid s.id c.args.ticket) (sym c.carry.ensures.who) (turn_dropping p.law who old _ _ mid c.in-Memory.ensures.turn.3 s.id c.args.ticket drop)
 
 pub returns-in-Memory-clause-went : goal.returns-in-Memory-clause-went
 returns-in-Memory-clause-went g c =
@@ -81,14 +83,14 @@ returns-in-Memory-clause-went g c =
     let s = c.args.segment in
     let going = c.args.going.now in
     let x = going_by going (Finding s c.args.ticket) c.requires.step c.requires.going.1 in
-    let mid = t.seen c.turn.new.self in
+    let mid = t.seen c.carry.new.turns in
     let new = t.seen c.forget-going.new.turns in
     let drop = dropping_of p.law who old s c.args.ticket _ c.requires.legal (x.at.shut.last) x.at.own in
     let last = c.forget-going.ensures.turn in
-    let turn = subst (λ w. IsTurn p.law w mid (Forget s.id c.args.ticket) last.0 new) c.turn.ensures.who last.2 in
+    let turn = subst (λ w. IsTurn p.law w mid (Forget s.id c.args.ticket) last.0 new) c.carry.ensures.who last.2 in
     went_by going (Finding s c.args.ticket) c.requires.step
     (gave_up p.law who old k c.requires.legal c.requires.goes_by
-    s.id c.args.ticket c.word-word.result mid new (at_step going.entry (Finding s c.args.ticket)) last.0 c.forget-going.result c.in-Memory.ensures.turn drop (refl, refl) turn last.1)
+    s.id c.args.ticket c.in-Memory.ensures.turn.0 mid new (at_step going.entry (Finding s c.args.ticket)) last.0 c.forget-going.result c.in-Memory.ensures.turn.3 drop (refl, refl) turn last.1)
 
 pub unreachable-requires-in_default : goal.unreachable-requires-in_default
 unreachable-requires-in_default g c =
@@ -100,7 +102,7 @@ unreachable-requires-in_default g c =
     let s = c.args.segment in
     let going = c.args.going.now in
     let x = going_by going (Finding s c.args.ticket) c.requires.step c.requires.going.1 in
-    carry_answers p.law who old (t.seen c.turn.new.self) s.id c.args.ticket _ _ _ c.requires.legal x.at.own c.turn.ensures.turn c.in_default.not-Done c.in_default.not-Going c.in_default.not-Memory
+    carry_answers p.law who old (t.seen c.carry.new.turns) s.id c.args.ticket _ _ _ c.requires.legal x.at.own c.carry.ensures.turn.3 c.in_default.not-Done c.in_default.not-Going c.in_default.not-Memory
 
 pub returns-in-SealedTail-clause-went : goal.returns-in-SealedTail-clause-went
 returns-in-SealedTail-clause-went g c =
@@ -112,11 +114,11 @@ returns-in-SealedTail-clause-went g c =
     let s = c.args.segment in
     let going = c.args.going.now in
     let x = going_by going (Finding s c.args.ticket) c.requires.step c.requires.going.1 in
-    let new = t.seen c.turn.new.self in
-    let turn = subst (λ (a : Answer). IsTurn p.law who old (Carry s.id c.args.ticket c.word-word.result) (fabric.Done a) new) c.in-SealedTail.is c.in-Done.ensures.turn in
+    let new = t.seen c.carry.new.turns in
+    let turn = subst (λ (a : Answer). IsTurn p.law who old (Carry s.id c.args.ticket c.in-Done.ensures.turn.0) (fabric.Done a) new) c.in-SealedTail.is c.in-Done.ensures.turn.3 in
     went_by going (Finding s c.args.ticket) c.requires.step
     (find_ended p.law who old k c.requires.legal c.requires.goes_by
-    s c.args.ticket c.word-word.result c.in-SealedTail.length going.entry new turn)
+    s c.args.ticket c.in-Done.ensures.turn.0 c.in-SealedTail.length going.entry new turn)
 
 pub unreachable-requires : goal.unreachable-requires
 unreachable-requires g c =
@@ -129,24 +131,24 @@ unreachable-requires g c =
     let going = c.args.going.now in
     let x = going_by going (Finding s c.args.ticket) c.requires.step c.requires.going.1 in
     find_answers p.law who old k c.requires.legal c.requires.goes_by
-    s c.args.ticket c.word-word.result going.entry c.in-Done.answer c.requires.going.0 (t.seen c.turn.new.self) c.in-Done.ensures.turn x c.in_default-answer.not-SealedTail c.in_default-answer.not-NoQuorum
+    s c.args.ticket c.in-Done.ensures.turn.0 going.entry c.in-Done.answer c.requires.going.0 (t.seen c.carry.new.turns) c.in-Done.ensures.turn.3 x c.in_default-answer.not-SealedTail c.in_default-answer.not-NoQuorum
 
 pub returns-in-Going-clause-draws : goal.returns-in-Going-clause-draws
-returns-in-Going-clause-draws g c = turn_draws _ _ _ _ _ _ _ _ c.in-Going.ensures.turn c.in-Going.ensures.turn.event c.word-word.ensures.given (omega arith)
+returns-in-Going-clause-draws g c = turn_draws _ _ _ _ _ _ _ _ c.in-Going.ensures.turn.3 c.in-Going.ensures.turn.3.event c.in-Going.ensures.turn.1 c.in-Going.ensures.turn.2
 
 pub returns-in-NoQuorum-clause-draws : goal.returns-in-NoQuorum-clause-draws
-returns-in-NoQuorum-clause-draws g c = turn_draws _ _ _ _ _ _ _ _ c.in-Done.ensures.turn c.in-Done.ensures.turn.event c.word-word.ensures.given (omega arith)
+returns-in-NoQuorum-clause-draws g c = turn_draws _ _ _ _ _ _ _ _ c.in-Done.ensures.turn.3 c.in-Done.ensures.turn.3.event c.in-Done.ensures.turn.1 c.in-Done.ensures.turn.2
 
 pub returns-in-SealedTail-clause-draws : goal.returns-in-SealedTail-clause-draws
-returns-in-SealedTail-clause-draws g c = turn_draws _ _ _ _ _ _ _ _ c.in-Done.ensures.turn c.in-Done.ensures.turn.event c.word-word.ensures.given (omega arith)
+returns-in-SealedTail-clause-draws g c = turn_draws _ _ _ _ _ _ _ _ c.in-Done.ensures.turn.3 c.in-Done.ensures.turn.3.event c.in-Done.ensures.turn.1 c.in-Done.ensures.turn.2
 
 pub returns-in-Memory-clause-draws : goal.returns-in-Memory-clause-draws
 returns-in-Memory-clause-draws g c =
     let t = g.T.Turns in
     let who = t.who c.args.turns.now in
     let old = t.seen c.args.turns.now in
-    let mid = t.seen c.turn.new.self in
+    let mid = t.seen c.carry.new.turns in
     let new = t.seen c.forget-going.new.turns in
-    spares_on who (t.who c.turn.new.self) old mid new c.turn.ensures.who
-    (turn_spares _ _ _ _ _ _ _ c.in-Memory.ensures.turn c.word-word.ensures.given (omega arith))
+    spares_on who (t.who c.carry.new.turns) old mid new c.carry.ensures.who
+    (turn_spares _ _ _ _ _ _ _ c.in-Memory.ensures.turn.3 c.in-Memory.ensures.turn.1 c.in-Memory.ensures.turn.2)
     (turn_silent _ _ _ _ _ _ c.forget-going.ensures.turn.2 refl)
