@@ -95,6 +95,11 @@ waiting_at room es held marks m t p at undecided =
     let same : undecided.operation ≡ operation_of p = cc in
     waiting p.answer (subst IsUndecided same undecided.undecided)
 
+pub unanswered_whole : (room : ℕ) (es : List Entry) (held : Held) (marks : Marks) (m : PendingMap) (w : FileView) (t : ℕ) (p : Pending) → file_view room es held marks m ≡ w → get nat_eq m t ≡ Some p → IsUndecidedAt w.loglet t → answer_at w.answers t ≡ None
+unanswered_whole room es held marks m w t p e at undecided =
+    let waits = waiting_at room es held marks m t p at (subst (λ (x : FileView). IsUndecidedAt x.loglet t) (sym e) undecided) in
+    subst (λ (x : FileView). answer_at x.answers t ≡ None) e (answer_shown m t ∙ ap answer_in at ∙ waits)
+
 -- what it is answered
 pub answered_whole : (room : ℕ) (es xs : List Entry) (old new : Held) (marks marks' : Marks) (m n : PendingMap) (w : FileView) (t : ℕ) (p : Pending) (y : Answer) (asked : Asked) → file_view room es old marks m ≡ w → get nat_eq m t ≡ Some p → xs ≡ es → IsUndecidedAt w.loglet t
     → SetsAnswer m t y n → marks' ≡ record marks { asked = asked } → (IsUnspoken p.task p.firm → y ≡ Beyond p.firm) → (¬ IsUnspoken p.task p.firm → new.server.up ≡ false → y ≡ NoQuorum 1)

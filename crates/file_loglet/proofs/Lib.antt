@@ -2,6 +2,10 @@ mod Writing
 mod Laters
 mod Heeding
 mod Stepping
+mod Stills
+mod Deciding
+mod Ties
+mod Carrying
 mod Maps
 mod Sound
 mod Told
@@ -9,3 +13,6 @@ mod Steps
 mod Wholes
 mod Serving
 mod Calls
+mod Aims
+mod Runs
+mod Starting

@@ -132,7 +132,7 @@ strayed_served room es held marks marks' m w word e em =
     subst (λ (v : FileView). Serves (serving_of v) (Stray word) Strayed (serving_of (file_view room es held marks' m))) e
     (subst (λ (x : Marks). Serves (serving_of (file_view room es held marks m)) (Stray word) Strayed (serving_of (file_view room es held x m))) (sym em) ((inl refl, tt), refl))
 
-only_server : (room : ℕ) (es : List Entry) (held : Held) (marks : Marks) (m : PendingMap) (w : FileView) (server : ℕ) → file_view room es held marks m ≡ w → server < w.loglet.servers → server < 1
+pub only_server : (room : ℕ) (es : List Entry) (held : Held) (marks : Marks) (m : PendingMap) (w : FileView) (server : ℕ) → file_view room es held marks m ≡ w → server < w.loglet.servers → server < 1
 only_server room es held marks m w server e lt = subst (λ (n : ℕ). server < n) (sym (ap (λ (v : FileView). v.loglet.servers) e)) lt
 
 armed_so : (old new : Held) (a : Asked) (n : ℕ) → new.server ≡ old.server → new.disk ≡ (if old.disk.stopped then old.disk else record old.disk { armed = n }) → (old.server.up ≡ true → new.disk ≡ record old.disk { armed = n })

@@ -1,21 +1,18 @@
 -- The steps that a carry is in a quorum cell of one server.
-use Rattle.std.specs.Prelude.{◌≡◌, ◌⊎◌, ℕ, suc, if◌then◌else◌, List, [], ◌∷◌, ◌++◌, length, set, slice_get, option_map, Option, Some, None}
+use Rattle.std.specs.Prelude.{◌≡◌, ◌⊎◌, ℕ, suc, if◌then◌else◌, List, [], ◌∷◌, slice_get, option_map, Option, Some, None}
 use Rattle.delos_types.specs.declared.entry.Entry.{Entry}
 use Rattle.loglet_api.specs.declared.call.Task.{Task}
 use Rattle.loglet_api.specs.declared.call.Task.TheVariants.{Placing, Settling, Finding, Sealing, Reading, Trimming}
 use Rattle.quorum_cell.specs.declared.message.Ask.{Ask}
 use Rattle.quorum_cell.specs.declared.message.Ask.TheVariants.{Store, Seal, Tail, Repair, Trim}
-use Rattle.quorum_cell.specs.declared.message.Reply.{Reply}
-use Rattle.quorum_cell.specs.declared.message.Request.{Request}
 use Rattle.quorum_cell.specs.declared.operation.Aim.{Aim}
 use Rattle.quorum_cell.specs.declared.operation.Aim.TheVariants.{Append as AimAppend, Settle as AimSettle, Tail as AimTail, Seal as AimSeal, Read as AimRead, Trim as AimTrim}
 use Rattle.quorum_cell.specs.declared.operation.Wish.{Wish}
 use Rattle.quorum_cell.specs.declared.operation.Wish.TheVariants.{Store as WishStore, Seal as WishSeal, Tail as WishTail, Repair as WishRepair, Read as WishRead, Trim as WishTrim}
 use Rattle.quorum_cell.specs.declared.operation.CellStep.{CellStep}
 use Rattle.quorum_cell.specs.declared.operation.CellStep.TheVariants.{Send, RequestComes, RequestStops, ReplyComes}
-use Rattle.quorum_cell.specs.Servers.{Server}
-use Rattle.quorum_cell.specs.Cells.{Cell, operation, is_seal}
-use Rattle.quorum_cell.specs.Steps.{ask_read, run_cell}
+use Rattle.quorum_cell.specs.Cells.{is_seal}
+use Rattle.quorum_cell.specs.Steps.{ask_read}
 
 -- what an operation with this aim sends by a wish, whatever it heard
 abbrev pub wished : List Entry → ℕ → Aim → Wish → Option Ask
@@ -50,21 +47,3 @@ IsAsking t requests replies [] steps = steps ≡ []
 IsAsking t requests replies (wish ∷ wishes) steps =
     (steps ≡ Send t 0 wish ∷ RequestStops requests ∷ ReplyComes replies ∷ [])
     ⊎ ((more : List CellStep) × (steps ≡ Send t 0 wish ∷ RequestComes requests ∷ ReplyComes replies ∷ more) × IsAsking t (suc requests) (suc replies) wishes more)
-
--- Some wishes of the operation come to these requests, and by asking them in turn the cell goes on to this server. Nothing
--- else of it changes but its messages, what the operation heard, and, where the server stopped, one fault of it.
-pub record GoesTo (c : Cell) (t : ℕ) (asks : List Ask) (new : Server) : Type 0 where
-  pub wishes : List Wish
-  pub sent : AreWished c.entries c.cut (operation c t).aim wishes asks
-  pub steps : List CellStep
-  pub are : IsAsking t (length c.requests) (length c.replies) wishes steps
-  pub requests : List Request
-  pub replies : List Reply
-  pub heard : List Reply
-  pub cell : run_cell steps c ≡ record c {
-    servers = new ∷ [];
-    requests = c.requests ++ requests;
-    replies = c.replies ++ replies;
-    operations = set c.operations t (record (operation c t) { heard = (operation c t).heard ++ heard });
-    faults = c.faults ++ (if new.up then [] else 0 ∷ []);
-  }

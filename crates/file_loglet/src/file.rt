@@ -10,6 +10,7 @@ ghost use Rattle.server_records.specs.Spelled.{empty_server};
 ghost use Rattle.file_loglet.specs.State.{counted};
 ghost use Rattle.file_loglet.specs.Held.{Brings};
 ghost use Rattle.file_loglet.specs.File.{IsServed};
+ghost use Rattle.file_loglet.specs.Steps.{IsCellOf, start_at};
 
 use crate::decide::{decide, told};
 use crate::marks::Marks;
@@ -84,6 +85,9 @@ impl<D: Disk> FileLoglet<D> {
         ensures spends { IfOk result (λ made. Spends 1 (D.view disk).armed made.disk.armed) }
         ensures unasked { IfOk result (λ made. (made.answers ≡ []) × (made.refusals ≡ 0) × (made.asked ≡ record { told = 0; carries = 0; strays = 0; stops = 0; restarts = 0 })) }
 
+        // It is the cell at its start: one empty server that is up.
+        ensures cell { IfOk result (λ made. IsCellOf made (start_at room (D.view disk).faults)) }
+
         // Why the disk came back, and that it is as good as before, or failed.
         ensures memory { IfErr result (λ e. e.fault ≡ Fault.Memory → ((D.view e.disk).timeline ≡ (D.view disk).timeline) × ((D.view e.disk).faults ≡ (D.view disk).faults)) }
         ensures failed { IfErr result (λ e. e.fault ≡ Fault.Disk → (D.view e.disk).faults ≡ disk_bumped (D.view disk).faults) }
@@ -125,6 +129,7 @@ impl<D: Disk> Loglet for FileLoglet<D> {
     ghost use Rattle.file_loglet.specs.Later.{Wears};
     ghost use Rattle.file_loglet.specs.Pending.{PutsAnswer};
     ghost use Rattle.file_loglet.specs.File.{IsDecidedAtOnce, IsAnswered, IsCarried, Takes, Counts, held_in, serving_of};
+    ghost use Rattle.file_loglet.specs.Steps.{FileStep};
 
     ghost view = { λ v. v.loglet };
 
@@ -171,6 +176,9 @@ impl<D: Disk> Loglet for FileLoglet<D> {
 
         // Only a refusal as full is counted; the server and its disk stay as they are, and what was answered.
         ensures counts { Counts self.old result self.new }
+
+        // The operation begins in its cell, or is refused there as full.
+        ensures goes { FileStep self.old (LogletCall.Begin op) (begin_answer result) self.new }
     {
         let size = self.entries.len() as u64;
         if is_full(&op, size, self.room, self.marks.begun) {
@@ -212,6 +220,9 @@ impl<D: Disk> Loglet for FileLoglet<D> {
         // The disk counts each record that was written, or failed once; it is no refusal.
         ensures wears { Wears (held_in self.old) result (held_in self.new) }
         ensures refusals { self.new.refusals ≡ self.old.refusals }
+
+        // Its requests come to the server in its cell, and the replies to it, by which it comes to its answer there.
+        ensures goes { FileStep self.old (LogletCall.Carry ticket word) (carry_answer result) self.new }
     {
         let number = ticket.number();
         let Ok(answer) = decide(
@@ -233,6 +244,9 @@ impl<D: Disk> Loglet for FileLoglet<D> {
         ensures serves { Serves (serving_of self.old) (LogletCall.Take ticket) (LogletAnswer.Taken result) (serving_of self.new) }
         ensures takes { Takes self.old ticket result self.new }
         ensures kept { self.new ≡ record self.old { loglet = self.new.loglet; answers = self.new.answers } }
+
+        // The outcome of this operation is given in its cell, and it is closed.
+        ensures goes { FileStep self.old (LogletCall.Take ticket) (LogletAnswer.Taken result) self.new }
     {
         let Decided { task, size, answer } = take_decided(&mut self.pending, ticket.number())?;
         let answer = told(task, self.marks.cut, answer);
@@ -246,6 +260,9 @@ impl<D: Disk> Loglet for FileLoglet<D> {
         ensures serves { Serves (serving_of self.old) (LogletCall.Forget ticket) LogletAnswer.Forgotten (serving_of self.new) }
         ensures puts { PutsAnswer self.old.answers ticket None self.new.answers }
         ensures kept { self.new ≡ record self.old { loglet = self.new.loglet; answers = self.new.answers } }
+
+        // This operation is closed in its cell.
+        ensures goes { FileStep self.old (LogletCall.Forget ticket) LogletAnswer.Forgotten self.new }
     {
         let _ = self.pending.remove(&ticket.number());
     }
@@ -258,6 +275,9 @@ impl<D: Disk> Loglet for FileLoglet<D> {
         ensures step { LogletStep self.old.loglet (LogletCall.Stray word) (stray_answer result) self.new.loglet }
         ensures serves { Serves (serving_of self.old) (LogletCall.Stray word) (stray_answer result) (serving_of self.new) }
         ensures kept { self.new ≡ record self.old { asked = record self.old.asked { told = word; strays = bumped self.old.asked.strays } } }
+
+        // Nothing happens in its cell.
+        ensures goes { FileStep self.old (LogletCall.Stray word) (stray_answer result) self.new }
     {
         let marks = self.marks.strayed(word);
         self.marks = marks;
@@ -269,6 +289,9 @@ impl<D: Disk> Loglet for FileLoglet<D> {
         ensures step { LogletStep self.old.loglet (LogletCall.Stop server after) LogletAnswer.Stopped self.new.loglet }
         ensures serves { Serves (serving_of self.old) (LogletCall.Stop server after) LogletAnswer.Stopped (serving_of self.new) }
         ensures arms { self.new ≡ record self.old { disk = (if self.old.disk.stopped then self.old.disk else record self.old.disk { armed = after }); asked = record self.old.asked { stops = bumped self.old.asked.stops } } }
+
+        // Nothing happens in its cell before the write comes that stops.
+        ensures goes { FileStep self.old (LogletCall.Stop server after) LogletAnswer.Stopped self.new }
     {
         self.server.stop(after);
         self.marks = self.marks.stopped();
@@ -284,6 +307,9 @@ impl<D: Disk> Loglet for FileLoglet<D> {
         // It comes up with the write done or not in which its disk failed.
         ensures restarted { self.old.server.up ≡ false → IfOk result (λ up. up ≡ true → (kept : Bool) × (self.new.server ≡ restarted self.old.server kept self.old.server.torn)) }
         ensures idle { self.old.server.up ≡ true → self.new ≡ record self.old { asked = record self.old.asked { restarts = bumped self.old.asked.restarts } } }
+
+        // The server comes up in its cell, or fails to once more.
+        ensures goes { FileStep self.old (LogletCall.Restart server word) (restart_answer result) self.new }
     {
         let Ok(up) = bring_up(&mut self.server, word) else {
             return Err(Refused::Memory);

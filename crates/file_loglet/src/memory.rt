@@ -2,8 +2,10 @@
 ghost use Rattle.std.specs.Prelude.{◌≡◌, ◌≤◌, ◌^◌, false, [], ◌∷◌, IfOk};
 ghost use Rattle.loglet_api.specs.declared.call.Kind.TheVariants.{File};
 ghost use Rattle.loglet_api.specs.View.{IsFresh};
+ghost use Rattle.quorum_cell.specs.Cells.{start};
 ghost use Rattle.server_records.specs.Spelled.{empty_server};
 ghost use Rattle.file_loglet.specs.File.{serving_of, new_state};
+ghost use Rattle.file_loglet.specs.Steps.{IsCellOf};
 
 use crate::file::FileLoglet;
 use disk_model::MemDisk;
@@ -11,7 +13,7 @@ use std::alloc::{AllocError, Global};
 
 /// An empty loglet on a fresh disk in memory, which takes at most `room` entries, from 1 to 2^32. No call of such a disk
 /// fails before one is armed, so want of memory is why there is none.
-#[tactic(auto, using(crate::proofs::Serving::new_serving))]
+#[tactic(auto, using(crate::proofs::Serving::new_serving, crate::proofs::Starting::start_fresh))]
 pub fn in_memory(alloc: Global, room: u64) -> Result<FileLoglet<MemDisk>, AllocError>
     requires { (1 ≤ room) × (room ≤ 2 ^ 32) }
     ensures fresh { IfOk result (λ made. IsFresh made.loglet) }
@@ -25,6 +27,9 @@ pub fn in_memory(alloc: Global, room: u64) -> Result<FileLoglet<MemDisk>, AllocE
     ensures faults { IfOk result (λ made. made.disk.faults ≡ 0) }
     ensures serving { IfOk result (λ made. serving_of made ≡ record { states = new_state ∷ []; told = 0; carries = 0; strays = 0 }) }
     ensures unasked { IfOk result (λ made. (made.answers ≡ []) × (made.refusals ≡ 0)) }
+
+    // It is the cell of one server at its start.
+    ensures cell { IfOk result (λ made. IsCellOf made (start 1 room (2 ^ 62))) }
 {
     match FileLoglet::new(alloc, MemDisk::new(alloc), room) {
         Ok(loglet) => Ok(loglet),

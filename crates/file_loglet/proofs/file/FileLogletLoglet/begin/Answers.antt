@@ -4,6 +4,7 @@ use Rattle.file_loglet.specs.File.{FileView}
 use Rattle.file_loglet.proofs.Wholes.{step_whole, alike_whole}
 use Rattle.file_loglet.proofs.Serving.{still_served}
 use Rattle.file_loglet.proofs.Calls.{whole_refused, whole_begun, whole_unchanged, unchanged_shown, counts_begun}
+use Rattle.file_loglet.proofs.Carrying.{nothing_steps, begin_steps, full_steps, same_answers}
 use Rattle.file_loglet.proofs.file.FileLogletLoglet.begin.Goals as goal
 
 pub invariant_of-self : goal.invariant_of-self
@@ -60,3 +61,17 @@ pub returns-clause-counts : goal.returns-clause-counts
 returns-clause-counts g c =
     let i = c.self.inside in
     counts_begun i.room i.entries.items i.server i.marks c.begun-marks.result i.pending c.add.new.entries.items c.add.new.pending _ _ _ _ _ c.self.view_is c.self.invariant c.begun-marks.ensures c.in-Ok.ensures.pending refl
+
+pub returns-then-is_full-clause-goes : goal.returns-then-is_full-clause-goes
+returns-then-is_full-clause-goes g c =
+    full_steps _ _ c.args.op (returns-then-is_full-clause-step g c) (ap (λ (w : FileView). w.answers) c.self.view_is) (ap (λ (w : FileView). w.server) c.self.view_is)
+
+pub returns-in_default-clause-goes : goal.returns-in_default-clause-goes
+returns-in_default-clause-goes g c =
+    let i = c.self.inside in
+    nothing_steps _ _ _ _ (returns-in_default-clause-step g c) (λ d. refl) (returns-in_default-clause-step g c).does
+    (same_answers i.room i.entries.items i.server i.marks i.pending c.add.new.pending _ c.self.view_is c.in_default.ensures.err.1) (ap (λ (w : FileView). w.server) c.self.view_is)
+
+pub returns-clause-goes : goal.returns-clause-goes
+returns-clause-goes g c =
+    begin_steps _ _ c.args.op _ (returns-clause-step g c) (ap (λ (w : FileView). w.server) c.self.view_is) (returns-clause-counts g c).1

@@ -1,11 +1,13 @@
-use Rattle.std.proofs.Common.{refl, sym, subst, arith}
+use Rattle.std.proofs.Common.{refl, ap, sym, subst, arith}
 use Rattle.loglet_api.specs.Step.{Carries}
 use Rattle.file_loglet.specs.State.{state_of, loglet_of}
-use Rattle.file_loglet.specs.File.{IsDecidedAtOnce}
+use Rattle.file_loglet.specs.File.{FileView, IsDecidedAtOnce}
 use Rattle.file_loglet.proofs.Wholes.{open_whole, step_whole, alike_whole, asked_whole, asked_shown}
 use Rattle.file_loglet.proofs.Laters.{stuck_may_fail}
 use Rattle.file_loglet.proofs.Serving.{stuck_served, carried_served, wore_shown, stuck_shown}
-use Rattle.file_loglet.proofs.Calls.{pending_whole, whole_tried, whole_carried, carries_whole, at_once_whole, answered_whole, obeyed_whole, unmoved_shown, undecided_is_open}
+use Rattle.file_loglet.proofs.Calls.{pending_whole, whole_tried, whole_carried, carries_whole, at_once_whole, answered_whole, unanswered_whole, obeyed_whole, unmoved_shown, undecided_is_open}
+use Rattle.file_loglet.proofs.Ties.{seen_old, seen_new}
+use Rattle.file_loglet.proofs.Carrying.{stuck_steps, carry_steps}
 use Rattle.file_loglet.proofs.file.FileLogletLoglet.carry.Goals as goal
 
 pub index-requires : goal.index-requires
@@ -107,3 +109,16 @@ returns-clause-obeys g c =
     let i = c.self.inside in
     obeyed_whole i.room i.entries.items c.as_slice.result.now i.server c.decide.new.server i.marks c.carried-self-inside.result i.pending c.set_answer.new.pending _ c.args.ticket c.index.result.now _ c.self.view_is
     (rw c.number-number.ensures at c.index.ensures) c.as_slice.ensures.value c.in-Ok.ensures.idle c.in-Ok.ensures.unasked c.in-Ok.ensures.obeys
+
+pub returns-in_default-clause-goes : goal.returns-in_default-clause-goes
+returns-in_default-clause-goes g c =
+    let i = c.self.inside in
+    stuck_steps _ _ c.args.ticket c.args.word _ (seen_old i.room i.entries.items i.server i.marks i.pending _ c.self.view_is) (seen_new i.room i.entries.items c.decide.new.server i.marks i.pending) (returns-in_default-clause-step g c)
+    (unanswered_whole i.room i.entries.items i.server i.marks i.pending _ c.args.ticket c.index.result.now c.self.view_is (rw c.number-number.ensures at c.index.ensures) c.requires)
+    (ap (λ (w : FileView). w.answers) c.self.view_is) (returns-in_default-clause-obeys g c)
+
+pub returns-clause-goes : goal.returns-clause-goes
+returns-clause-goes g c =
+    let i = c.self.inside in
+    carry_steps _ _ c.args.ticket c.args.word _ (seen_old i.room i.entries.items i.server i.marks i.pending _ c.self.view_is) (seen_new i.room i.entries.items c.decide.new.server c.carried-self-inside.result c.set_answer.new.pending)
+    (returns-clause-step g c) (returns-clause-at_once g c) (returns-clause-answered g c) (returns-clause-obeys g c)

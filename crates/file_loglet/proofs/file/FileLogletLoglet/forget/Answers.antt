@@ -1,7 +1,9 @@
-use Rattle.std.proofs.Common.{◌≤◌, arith}
+use Rattle.std.proofs.Common.{◌≤◌, ap, arith}
 use Rattle.std.specs.HashMap.{hash_map_len}
 use Rattle.file_loglet.proofs.Wholes.{step_whole, forgotten}
 use Rattle.file_loglet.proofs.Calls.{forgets_answer}
+use Rattle.file_loglet.specs.File.{FileView}
+use Rattle.file_loglet.proofs.Carrying.{forget_steps}
 use Rattle.file_loglet.proofs.file.FileLogletLoglet.forget.Goals as goal
 
 pub invariant_of-self : goal.invariant_of-self
@@ -19,3 +21,6 @@ pub returns-clause-puts : goal.returns-clause-puts
 returns-clause-puts g c =
     let i = c.self.inside in
     forgets_answer i.room i.entries.items i.server i.marks i.pending c.remove.new.self _ c.args.ticket c.self.view_is (rw c.number.ensures at c.remove.ensures.updates)
+
+pub returns-clause-goes : goal.returns-clause-goes
+returns-clause-goes g c = forget_steps _ _ c.args.ticket (returns-clause-step g c) (returns-clause-puts g c) (ap (λ (w : FileView). w.server) c.self.view_is)

@@ -1,6 +1,12 @@
-use Rattle.std.proofs.Common.{refl}
+use Rattle.std.proofs.Common.{refl, ap, subst, ◌∙◌}
+use Rattle.std.specs.Prelude.{Ok}
 use Rattle.file_loglet.proofs.Wholes.{step_whole, alike_whole, brought_whole, whole_same, same_shown}
-use Rattle.file_loglet.proofs.Serving.{reopened_served, restarted_served, restarted_shown, idle_shown, is_down}
+use Rattle.file_loglet.proofs.Serving.{only_server, reopened_served, restarted_served, restarted_shown, idle_shown, is_down}
+use Rattle.file_loglet.specs.Held.{Brings}
+use Rattle.file_loglet.specs.declared.marks.Marks.{Marks}
+use Rattle.file_loglet.specs.File.{FileView, held_in}
+use Rattle.file_loglet.proofs.Ties.{seen_old, seen_new}
+use Rattle.file_loglet.proofs.Carrying.{nothing_steps, restart_steps}
 use Rattle.file_loglet.proofs.file.FileLogletLoglet.restart.Goals as goal
 
 pub invariant_of-self : goal.invariant_of-self
@@ -48,3 +54,16 @@ pub returns-clause-idle : goal.returns-clause-idle
 returns-clause-idle g c =
     let i = c.self.inside in
     idle_shown i.room i.entries.items i.server c.bring_up.new.server i.marks c.restarted-self-inside.result i.pending _ c.args.word c.bring_up.result c.self.view_is c.bring_up.ensures c.restarted-self-inside.ensures
+
+pub returns-in_default-clause-goes : goal.returns-in_default-clause-goes
+returns-in_default-clause-goes g c =
+    nothing_steps _ _ _ _ (returns-in_default-clause-step g c) (λ d. refl) (returns-in_default-clause-step g c).does
+    (ap (λ (w : FileView). w.answers) c.self.view_is) (c.in_default.ensures.server ∙ ap (λ (w : FileView). w.server) c.self.view_is)
+
+pub returns-clause-goes : goal.returns-clause-goes
+returns-clause-goes g c =
+    let i = c.self.inside in
+    restart_steps _ _ c.args.server c.args.word c.in-Ok.up (seen_old i.room i.entries.items i.server i.marks i.pending _ c.self.view_is) (seen_new i.room i.entries.items c.bring_up.new.server c.restarted-self-inside.result i.pending)
+    (only_server i.room i.entries.items i.server i.marks i.pending _ c.args.server c.self.view_is c.requires) (returns-clause-step g c)
+    (subst (λ (v : FileView). Brings c.args.word (held_in v) (Ok c.in-Ok.up) c.bring_up.new.server) c.self.view_is c.in-Ok.ensures)
+    (ap (λ (x : Marks). x.refusals) c.restarted-self-inside.ensures ∙ ap (λ (w : FileView). w.refusals) c.self.view_is) (ap (λ (w : FileView). w.answers) c.self.view_is)

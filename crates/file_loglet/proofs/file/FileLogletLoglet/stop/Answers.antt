@@ -1,6 +1,8 @@
-use Rattle.std.proofs.Common.{refl, ◌∙◌}
+use Rattle.std.proofs.Common.{refl, ap, ◌∙◌}
 use Rattle.file_loglet.proofs.Wholes.{alike_whole, asked_whole, asked_shown, stop_shown, stop_calm, whole_same}
 use Rattle.file_loglet.proofs.Serving.{stopped_served}
+use Rattle.file_loglet.specs.File.{FileView}
+use Rattle.file_loglet.proofs.Carrying.{nothing_steps}
 use Rattle.file_loglet.proofs.file.FileLogletLoglet.stop.Goals as goal
 
 pub invariant_of-self : goal.invariant_of-self
@@ -20,3 +22,8 @@ pub returns-clause-serves : goal.returns-clause-serves
 returns-clause-serves g c =
     let i = c.self.inside in
     stopped_served i.room i.entries.items i.server c.stop.new.self i.marks c.stopped-self-inside.result i.pending _ c.args.server c.args.after c.self.view_is c.requires c.stop.ensures.server c.stop.ensures.disk c.stop.ensures.armed c.stopped-self-inside.ensures
+
+pub returns-clause-goes : goal.returns-clause-goes
+returns-clause-goes g c =
+    nothing_steps _ _ _ _ (returns-clause-step g c) (λ d. refl) (returns-clause-step g c).does
+    (ap (λ (w : FileView). w.answers) c.self.view_is) (c.stop.ensures.server ∙ ap (λ (w : FileView). w.server) c.self.view_is)

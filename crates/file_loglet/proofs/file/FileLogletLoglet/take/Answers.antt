@@ -1,6 +1,8 @@
-use Rattle.std.proofs.Common.{refl}
+use Rattle.std.proofs.Common.{refl, ap}
 use Rattle.file_loglet.proofs.Wholes.{step_whole, alike_whole}
 use Rattle.file_loglet.proofs.Calls.{whole_taken, taken_small, size_small, whole_unchanged, unchanged_shown, undecided_whole, takes_whole, waits_whole}
+use Rattle.file_loglet.specs.File.{FileView}
+use Rattle.file_loglet.proofs.Carrying.{take_steps, wait_steps}
 use Rattle.file_loglet.proofs.file.FileLogletLoglet.take.Goals as goal
 
 pub invariant_of-self : goal.invariant_of-self
@@ -45,3 +47,12 @@ returns-clause-takes g c =
     let i = c.self.inside in
     takes_whole i.room i.entries.items i.server i.marks c.told-self-inside.result i.pending c.take_decided.new.pending _ c.args.ticket c.in_ok-task.field-0 c.told-answer.result c.self.view_is
     (rw c.number.ensures at c.in_ok-task.ensures.taken) c.told-answer.ensures
+
+pub returns-in_err-task-clause-goes : goal.returns-in_err-task-clause-goes
+returns-in_err-task-clause-goes g c =
+    rw c.from_residual.ensures
+    (wait_steps _ _ c.args.ticket (rw c.from_residual.ensures at (returns-in_err-task-clause-step g c)) (rw c.from_residual.ensures at (returns-in_err-task-clause-takes g c)) (ap (λ (w : FileView). w.server) c.self.view_is))
+
+pub returns-clause-goes : goal.returns-clause-goes
+returns-clause-goes g c =
+    take_steps _ _ c.args.ticket c.told-answer.result (returns-clause-step g c) (returns-clause-takes g c) (ap (λ (w : FileView). w.server) c.self.view_is)
