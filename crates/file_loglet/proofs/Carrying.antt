@@ -1,5 +1,5 @@
 -- The calls of a file loglet as steps of a cell of one server.
-use Rattle.std.proofs.Common.{◌≡◌, ℕ, zero, suc, ◌^◌, ◌<◌, ◌≤◌, Bool, true, false, set, get_or, drop, refl, sym, ◌∙◌, ap, subst, arith, List, [], ◌∷◌, ◌++◌, length, Option, Some, None, inl, inr, map, length-append}
+use Rattle.std.proofs.Common.{◌≡◌, ℕ, zero, suc, ◌<◌, ◌≤◌, Bool, true, false, set, get_or, drop, refl, sym, ◌∙◌, ap, subst, arith, List, [], ◌∷◌, ◌++◌, length, Option, Some, None, inl, inr, map, length-append}
 use Rattle.std.specs.Prelude.{◌⊎◌, ◌&&◌, nat_lt, nat_le, if◌then◌else◌, is_some, slice_get, Ok, Err, All}
 use Rattle.std.specs.List.{list_any}
 use Rattle.std.proofs.lemmas.Bool.{false≢true, cases_Bool, leb-true}
@@ -29,15 +29,13 @@ use Rattle.quorum_cell.specs.declared.operation.Wish.{Wish}
 use Rattle.quorum_cell.specs.declared.operation.CellStep.{CellStep}
 use Rattle.quorum_cell.specs.declared.operation.CellStep.TheVariants as steps_of
 use Rattle.quorum_cell.specs.Servers.{Server, length_of, restarted}
-use Rattle.quorum_cell.specs.Cells.{Cell, Operation, operation, server, no_operation, no_server, start}
+use Rattle.quorum_cell.specs.Cells.{Cell, Operation, operation, server, no_operation, no_server}
 use Rattle.quorum_cell.specs.Tallies.{entry_heard, gives_entry, may_decide}
 use Rattle.quorum_cell.specs.Steps.{run_cell, is_full, begun, begin, admit, cut_after, wanted, with_fault, put_operation, restart, restart_fails, take_outcome, give, forget, decide, waits, given_outcome}
 use Rattle.quorum_cell.specs.Law.{IsLawful, ServerHolds}
 use Rattle.quorum_cell.proofs.Lists.{at_set, at_push}
 use Rattle.quorum_cell.specs.Law.{RequestHolds, ReplyHolds, SentFor, faulted}
-use Rattle.quorum_cell.specs.declared.operation.Loss.{Loss}
-use Rattle.std.proofs.lemmas.List.Elements.{All-nil}
-use Rattle.quorum_cell.proofs.Lawful.{step_lawful, start_lawful}
+use Rattle.quorum_cell.proofs.Lawful.{step_lawful}
 use Rattle.quorum_cell.proofs.Runs.{run_cell-append}
 use Rattle.quorum_cell.proofs.Conclusions.{found_entry}
 use Rattle.cell_views.specs.Views.{BringsSpelled, IsStray, counted as cell_counted, cell_view, calls, op_of, taken, answer_of}
@@ -53,7 +51,7 @@ use Rattle.file_loglet.specs.Steps.{start_at, manner, IsToldAs, IsWithin, IsCell
 use Rattle.file_loglet.proofs.Stills.{Still, AreStrays, moves_still, still_same, strays_both, run_lawful, shows_begun, shows_full, shows_taken, shows_forgotten}
 use Rattle.file_loglet.proofs.Stepping.{follows_all, cell_at, hearing, Asked, AskedFirst, asks_none, asks_all, asks_some, asks_one}
 use Rattle.file_loglet.proofs.Deciding.{one_majority, Decides, Known, heard_too, up_decides, down_decides, unspoken_decides, unspoken_or}
-use Rattle.file_loglet.proofs.Ties.{Seen, OpenIn, shows_of, same_tied, tied, told_put, puts_here, puts_other, open_in, call_of, told_later}
+use Rattle.file_loglet.proofs.Ties.{Seen, exact, OpenIn, shows_of, same_tied, tied, told_put, puts_here, puts_other, open_in, call_of, told_later}
 
 ---- no step
 
@@ -121,8 +119,8 @@ begun_wants v c aim h =
     (λ j n e. (let le = h.wants j n e in let up = cut_rises c aim in omega (arith, le, up)))
     (λ n e. (let same : wanted c aim ≡ cut_after c aim = ap (wanted c) e ∙ sym (ap (cut_after c) e) in omega (arith, same)))
 
-pub begin_steps : (old new : FileView) (op : Op) (t : ℕ) → LogletStep old.loglet (calling.Begin op) (Begun t) new.loglet → new.server ≡ old.server → ((q : ℕ) → answer_at new.answers q ≡ answer_at old.answers q) → FileStep old (calling.Begin op) (Begun t) new
-begin_steps old new op t s server_same same = record {
+pub begin_steps : (old new : FileView) → Seen new → (op : Op) (t : ℕ) → LogletStep old.loglet (calling.Begin op) (Begun t) new.loglet → new.server ≡ old.server → ((q : ℕ) → answer_at new.answers q ≡ answer_at old.answers q) → FileStep old (calling.Begin op) (Begun t) new
+begin_steps old new seen op t s server_same same = record {
   loglet = s;
   cells = λ c h. record { steps = steps_of.Begin (aim_of op) ∷ []; are = refl; cell = by c h (is_full c (aim_of op)) refl };
 }
@@ -136,18 +134,19 @@ begin_steps old new op t s server_same same = record {
         let k = begins_call c op false full h.lawful h.spelled s.can in
         let is : begin c (aim_of op) ≡ admit c (aim_of op) = rw full refl in
         let shown = shows_begun old.loglet new.loglet (cell_view manner c) (cell_view manner (begin c (aim_of op))) op t (length c.operations) (shows_of old c h) does k.does in
+        let tells : (q : ℕ) → IsToldAs (begin c (aim_of op)).cut (operation (begin c (aim_of op)) q) (answer_at new.answers q) = λ q. subst (λ (x : Cell). IsToldAs x.cut (operation x q) (answer_at new.answers q)) (sym is) (begun_told old new c op h (cut_rises c (aim_of op)) same q) in
         record {
           lawful = step_lawful c (steps_of.Begin (aim_of op)) h.lawful;
           spelled = spelled_after c (steps_of.Begin (aim_of op)) h.spelled (brings op s.can);
           shows = shown.shows;
-          operations = shown.operations;
+          operations = exact new (begin c (aim_of op)) shown seen tells;
           server = ap (λ (x : Cell). x.servers) is ∙ h.server ∙ ap (λ (x : Server). x ∷ []) (sym server_same);
-          told = λ q. subst (λ (x : Cell). IsToldAs x.cut (operation x q) (answer_at new.answers q)) (sym is) (begun_told old new c op h (cut_rises c (aim_of op)) same q);
+          told = tells;
           wants = λ q. subst (λ (x : Cell). IsWithin x.cut (operation x q)) (sym is) (begun_wants old c (aim_of op) h q);
         }
 
-pub full_steps : (old new : FileView) (op : Op) → LogletStep old.loglet (calling.Begin op) (Refusal Full) new.loglet → new.answers ≡ old.answers → new.server ≡ old.server → FileStep old (calling.Begin op) (Refusal Full) new
-full_steps old new op s answers server = record {
+pub full_steps : (old new : FileView) → Seen new → (op : Op) → LogletStep old.loglet (calling.Begin op) (Refusal Full) new.loglet → new.answers ≡ old.answers → new.server ≡ old.server → FileStep old (calling.Begin op) (Refusal Full) new
+full_steps old new seen op s answers server = record {
   loglet = s;
   cells = λ c h. record { steps = steps_of.Begin (aim_of op) ∷ []; are = refl; cell = by c h (is_full c (aim_of op)) refl };
 }
@@ -161,13 +160,14 @@ full_steps old new op s answers server = record {
         let k = begins_call c op true full h.lawful h.spelled s.can in
         let is : begin c (aim_of op) ≡ with_fault c (length c.servers) = rw full refl in
         let shown = shows_full old.loglet new.loglet (cell_view manner c) (cell_view manner (begin c (aim_of op))) (shows_of old c h) does.1 k.does.1 in
+        let tells : (q : ℕ) → IsToldAs (begin c (aim_of op)).cut (operation (begin c (aim_of op)) q) (answer_at new.answers q) = λ q. subst (λ (x : Cell). IsToldAs x.cut (operation x q) (answer_at new.answers q)) (sym is) (subst (λ (xs : List (ℕ × Option Answer)). IsToldAs c.cut (operation c q) (answer_at xs q)) (sym answers) (h.told q)) in
         record {
           lawful = step_lawful c (steps_of.Begin (aim_of op)) h.lawful;
           spelled = spelled_after c (steps_of.Begin (aim_of op)) h.spelled (brings op s.can);
           shows = shown.shows;
-          operations = shown.operations;
+          operations = exact new (begin c (aim_of op)) shown seen tells;
           server = ap (λ (x : Cell). x.servers) is ∙ h.server ∙ ap (λ (x : Server). x ∷ []) (sym server);
-          told = λ q. subst (λ (x : Cell). IsToldAs x.cut (operation x q) (answer_at new.answers q)) (sym is) (subst (λ (xs : List (ℕ × Option Answer)). IsToldAs c.cut (operation c q) (answer_at xs q)) (sym answers) (h.told q));
+          told = tells;
           wants = λ q. subst (λ (x : Cell). IsWithin x.cut (operation x q)) (sym is) (h.wants q);
         }
 
@@ -189,8 +189,8 @@ taken_is v c t a decided y h is was told =
 gives : (c : Cell) (t : ℕ) → (operation c t).closed ≡ false → take_outcome c t ≡ give c t (operation c t) (operation c t).decided
 gives c t h = rw h refl
 
-pub take_steps : (old new : FileView) (t : ℕ) (y : Answer) → LogletStep old.loglet (calling.Take t) (Taken (Some y)) new.loglet → IsTaken old t y new → new.server ≡ old.server → FileStep old (calling.Take t) (Taken (Some y)) new
-take_steps old new t y s takes server_same = record {
+pub take_steps : (old new : FileView) → Seen new → (t : ℕ) (y : Answer) → LogletStep old.loglet (calling.Take t) (Taken (Some y)) new.loglet → IsTaken old t y new → new.server ≡ old.server → FileStep old (calling.Take t) (Taken (Some y)) new
+take_steps old new seen t y s takes server_same = record {
   loglet = s;
   cells = λ c h. record { steps = steps_of.Take t ∷ []; are = (told_of c h, refl); cell = by c h (operation c t).decided refl };
 }
@@ -206,14 +206,15 @@ take_steps old new t y s takes server_same = record {
         let is : take_outcome c t ≡ give c t (operation c t) (Some a) = gives c t o.is_open ∙ ap (give c t (operation c t)) z in
         let k = call_of c (steps_of.Take t) (calling.Take t) (Taken (Some y)) h.lawful h.spelled tt (rw (o.is_open, told_of c h) refl) in
         let shown = shows_taken old.loglet new.loglet (cell_view manner c) (cell_view manner (take_outcome c t)) t y (shows_of old c h) s.does k.does in
+        let tells : (q : ℕ) → IsToldAs (take_outcome c t).cut (operation (take_outcome c t) q) (answer_at new.answers q) = λ q. subst (λ (x : Cell). IsToldAs x.cut (operation x q) (answer_at new.answers q)) (sym is)
+        (told_put c.cut c.operations t last old.answers new.answers o.known h.told (closed_told c.cut last (answer_at new.answers t) refl (puts_here old.answers new.answers t None takes.puts)) (puts_other old.answers new.answers t None takes.puts) q) in
         record {
           lawful = step_lawful c (steps_of.Take t) h.lawful;
           spelled = spelled_after c (steps_of.Take t) h.spelled tt;
           shows = shown.shows;
-          operations = shown.operations;
+          operations = exact new (take_outcome c t) shown seen tells;
           server = ap (λ (x : Cell). x.servers) is ∙ h.server ∙ ap (λ (x : Server). x ∷ []) (sym server_same);
-          told = λ q. subst (λ (x : Cell). IsToldAs x.cut (operation x q) (answer_at new.answers q)) (sym is)
-              (told_put c.cut c.operations t last old.answers new.answers o.known h.told (closed_told c.cut last (answer_at new.answers t) refl (puts_here old.answers new.answers t None takes.puts)) (puts_other old.answers new.answers t None takes.puts) q);
+          told = tells;
           wants = λ q. subst (λ (x : Cell). IsWithin x.cut (operation x q)) (sym is) (at_set (λ j (x : Operation). IsWithin c.cut x) c.operations t last no_operation h.wants (λ _. h.wants t) q);
         }
 
@@ -237,8 +238,8 @@ some_there : (x : Option OpenOperation) → is_some x ≡ true → (a : OpenOper
 some_there None h = absurd (false≢true h)
 some_there (Some a) h = (a, refl)
 
-pub forget_steps : (old new : FileView) (t : ℕ) → LogletStep old.loglet (calling.Forget t) Forgotten new.loglet → PutsAnswer old.answers t None new.answers → new.server ≡ old.server → FileStep old (calling.Forget t) Forgotten new
-forget_steps old new t s puts server_same = record {
+pub forget_steps : (old new : FileView) → Seen new → (t : ℕ) → LogletStep old.loglet (calling.Forget t) Forgotten new.loglet → PutsAnswer old.answers t None new.answers → new.server ≡ old.server → FileStep old (calling.Forget t) Forgotten new
+forget_steps old new seen t s puts server_same = record {
   loglet = s;
   cells = λ c h. record { steps = steps_of.Forget t ∷ []; are = refl; cell = by c h };
 }
@@ -251,14 +252,15 @@ forget_steps old new t s puts server_same = record {
         let is : forget c t ≡ put_operation c t last = rw o.is_open refl in
         let k = call_of c (steps_of.Forget t) (calling.Forget t) Forgotten h.lawful h.spelled tt (rw o.is_open refl) in
         let shown = shows_forgotten old.loglet new.loglet (cell_view manner c) (cell_view manner (forget c t)) t (shows_of old c h) s.does k.does in
+        let tells : (q : ℕ) → IsToldAs (forget c t).cut (operation (forget c t) q) (answer_at new.answers q) = λ q. subst (λ (x : Cell). IsToldAs x.cut (operation x q) (answer_at new.answers q)) (sym is)
+        (told_put c.cut c.operations t last old.answers new.answers o.known h.told (closed_told c.cut last (answer_at new.answers t) refl (puts_here old.answers new.answers t None puts)) (puts_other old.answers new.answers t None puts) q) in
         record {
           lawful = step_lawful c (steps_of.Forget t) h.lawful;
           spelled = spelled_after c (steps_of.Forget t) h.spelled tt;
           shows = shown.shows;
-          operations = shown.operations;
+          operations = exact new (forget c t) shown seen tells;
           server = ap (λ (x : Cell). x.servers) is ∙ h.server ∙ ap (λ (x : Server). x ∷ []) (sym server_same);
-          told = λ q. subst (λ (x : Cell). IsToldAs x.cut (operation x q) (answer_at new.answers q)) (sym is)
-              (told_put c.cut c.operations t last old.answers new.answers o.known h.told (closed_told c.cut last (answer_at new.answers t) refl (puts_here old.answers new.answers t None puts)) (puts_other old.answers new.answers t None puts) q);
+          told = tells;
           wants = λ q. subst (λ (x : Cell). IsWithin x.cut (operation x q)) (sym is) (at_set (λ j (x : Operation). IsWithin c.cut x) c.operations t last no_operation h.wants (λ _. h.wants t) q);
         }
 
@@ -632,57 +634,7 @@ carry_steps old new t word done was seen s at_once answered carried = record {
                 let a : Asked c t old.server new.server (asks_in c t old.server) (0 ∷ []) = x.asks in
                 ends (0 ∷ []) (Lacking 1) (answered.down (spoken n) down) x (down_decides c.cut (operation c t) a.heard (operation c t).aim (a.failed down (some_asked down)) n) (fail_faults old new c h was seen at_once.failed on down)
 
----- its first cell
-
-pub start_lawful_at : (room faults : ℕ) → 1 ≤ room → room ≤ 2 ^ 32 → IsLawful (start_at room faults)
-start_lawful_at room faults least most =
-    let first : IsLawful (start 1 room (2 ^ 62)) = start_lawful 1 room (2 ^ 62) (omega arith) (omega arith) least most (omega arith) in
-    let law = first.law.quorum in
-    record {
-      shape = record { servers = first.shape.servers; room = first.shape.room; limit = first.shape.limit };
-      law = record {
-        quorum = record {
-          some = law.some;
-          servers = λ i. (let s = law.servers i in record { same = s.same; trimmed = s.trimmed; within = s.within; sealed = s.sealed; torn = λ ask e. absurd (none-some ask (no_torn i e)) });
-          requests = All-nil (RequestHolds (start_at room faults));
-          replies = All-nil (ReplyHolds (start_at room faults));
-          operations = λ t. (let o = law.operations t in record {
-            since = o.since;
-            heard = All-nil (SentFor (start_at room faults) t);
-            reach_before = o.reach_before;
-            faults = omega arith;
-            down = λ i d. refl;
-            lost = All-nil (λ (l : Loss). faulted (start_at room faults).faults 0 l.server ≡ true);
-            size = o.size;
-            reached = o.reached;
-            firm = o.firm;
-            placed = o.placed;
-            settled = o.settled;
-            trimmed = o.trimmed;
-            ungiven = o.ungiven;
-            justified = λ a e. absurd (none-some a e);
-          });
-          fits = law.fits;
-          tickets = law.tickets;
-          cut = law.cut;
-          ordered = law.ordered;
-          cap_shown = law.cap_shown;
-          reached = law.reached;
-          firm = law.firm;
-          capped = law.capped;
-        };
-        unsealed = λ z. (let u = first.law.unsealed z in record { servers = u.servers; requests = u.requests; replies = u.replies; operations = u.operations });
-      };
-    }
-  where
-    no_torn : {ask : Ask} (i : ℕ) → (server (start 1 room (2 ^ 62)) i).torn ≡ Some ask → None ≡ Some ask
-    no_torn zero e = e
-    no_torn (suc i) e = e
-
--- ---- by the parts
-
-pub same_server : (room : ℕ) (es : List Entry) (held : Held) (marks : Marks) (m : PendingMap) (w : FileView) → file_view room es held marks m ≡ w → held.server ≡ w.server
-same_server room es held marks m w e = ap (λ (v : FileView). v.server) e
+---- by the parts
 
 pub same_answers : (room : ℕ) (es : List Entry) (held : Held) (marks : Marks) (m n : PendingMap) (w : FileView) → file_view room es held marks m ≡ w → n.entries ≡ m.entries → map shown_answer n.entries ≡ w.answers
 same_answers room es held marks m n w e same = ap (map shown_answer) same ∙ ap (λ (v : FileView). v.answers) e

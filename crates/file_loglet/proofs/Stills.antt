@@ -15,11 +15,16 @@ use Rattle.quorum_cell.proofs.Lawful.{step_lawful}
 use Rattle.cell_views.specs.Views.{IsNearer, IsSpelled, BringsSpelled, IsStray, cell_view}
 use Rattle.cell_views.proofs.Moves.{step_moves}
 use Rattle.cell_views.proofs.Calls.{spelled_after}
-use Rattle.file_loglet.specs.Steps.{manner, IsAlike}
+use Rattle.file_loglet.specs.Steps.{manner}
 
----- the same operation but for what is left to do
+-- the same operation, or none, but for what is left to do
+abbrev pub IsAlike : Option OpenOperation → Option OpenOperation → Type 0
+IsAlike None None = Unit {0}
+IsAlike (Some a) (Some b) = b ≡ record a { left = b.left }
+IsAlike None (Some b) = ⊥
+IsAlike (Some a) None = ⊥
 
-alike_same : (a : Option OpenOperation) → IsAlike a a
+pub alike_same : (a : Option OpenOperation) → IsAlike a a
 alike_same None = tt
 alike_same (Some a) = refl
 

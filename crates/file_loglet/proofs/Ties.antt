@@ -25,34 +25,78 @@ use Rattle.quorum_cell.specs.Cells.{Cell, Operation, operation, no_operation, no
 use Rattle.quorum_cell.specs.Steps.{cell_step, run_cell, given_outcome}
 use Rattle.quorum_cell.specs.Tallies.{may_decide}
 use Rattle.quorum_cell.specs.Law.{IsLawful}
-use Rattle.cell_views.specs.Views.{IsManner, IsSpelled, BringsSpelled, counted as cell_counted, cell_view, calls, op_of, operation_view, taken, answer_of}
+use Rattle.cell_views.specs.Views.{IsManner, IsSpelled, BringsSpelled, counted as cell_counted, cell_view, calls, left_of as cell_left, op_of, operation_view, taken, answer_of}
 use Rattle.cell_views.proofs.Calls.{step_runs}
 use Rattle.cell_views.proofs.Opened.{opened, opened_is}
 use Rattle.cell_views.proofs.Sounds.{open_known}
 use Rattle.file_loglet.specs.Held.{Held}
 use Rattle.file_loglet.specs.declared.marks.Marks.{Marks}
-use Rattle.file_loglet.specs.Pending.{PendingMap, answer_at, PutsAnswer, told_at}
+use Rattle.file_loglet.specs.Pending.{PendingMap, left_of, answer_at, PutsAnswer, told_at}
 use Rattle.file_loglet.specs.State.{counted, down_of}
 use Rattle.file_loglet.specs.File.{FileView, file_view}
 use Rattle.file_loglet.specs.Steps.{manner, IsToldAs, IsWithin, IsCellOf}
-use Rattle.file_loglet.proofs.Stills.{Still, Shows, AreStrays, shows_still, run_still, run_lawful, run_spelled, there_alike}
+use Rattle.file_loglet.proofs.Maps.{behind, answer_shown, answer_in}
+use Rattle.file_loglet.proofs.Stills.{IsAlike, alike_same, Still, Shows, AreStrays, shows_still, run_still, run_lawful, run_spelled, there_alike}
 use Rattle.file_loglet.proofs.Deciding.{one_majority, one_down}
 
----- what is shown of the server
+---- what is shown of the server, and of what is left to do
 
 pub record Seen (v : FileView) : Type 0 where
   pub shut : v.loglet.shut ≡ is_sealed v.server
   pub down : v.loglet.down ≡ down_of v.server.up
   pub faults : v.loglet.faults ≡ counted v.disk.faults v.refusals
+  pub lefts : (t : ℕ) (o : OpenOperation) → operation_at v.loglet.operations t ≡ Some o → o.left ≡ left_of (answer_at v.answers t)
 
 pub seen_new : (room : ℕ) (es : List Entry) (held : Held) (marks : Marks) (m : PendingMap) → Seen (file_view room es held marks m)
-seen_new room es held marks m = record { shut = refl; down = refl; faults = refl }
+seen_new room es held marks m = record {
+  shut = refl;
+  down = refl;
+  faults = refl;
+  lefts = λ t o is. (let w = behind m t o is in ap (λ (x : OpenOperation). x.left) (sym w.2) ∙ ap left_of (sym (answer_shown m t ∙ ap answer_in w.1)));
+}
 
 pub seen_old : (room : ℕ) (es : List Entry) (held : Held) (marks : Marks) (m : PendingMap) (w : FileView) → file_view room es held marks m ≡ w → Seen w
 seen_old room es held marks m w e = subst Seen e (seen_new room es held marks m)
 
 pub shows_of : (v : FileView) (c : Cell) → IsCellOf v c → Shows v.loglet (cell_view manner c)
-shows_of v c h = record { shows = h.shows; operations = h.operations }
+shows_of v c h = record { shows = h.shows; operations = λ t. subst (λ (x : Option OpenOperation). IsAlike (operation_at (cell_view manner c).operations t) x) (sym (h.operations t)) (alike_same (operation_at (cell_view manner c).operations t)) }
+
+-- an answer stands beside an outcome
+left_same : (cut : ℕ) (o : Operation) (x : Option Answer) → o.closed ≡ false → IsToldAs cut o x → left_of x ≡ cell_left o.decided (1, 0)
+left_same cut o None open_ told = sym (ap (λ (z : Option Outcome). cell_left z (1, 0)) (told open_))
+left_same cut o (Some y) open_ told = by o.decided refl told.1
+  where
+    by : (z : Option Outcome) → o.decided ≡ z → taken cut o z ≡ Some (told_at (task_of (op_of o.aim)) cut y) → (0, 0) ≡ cell_left z (1, 0)
+    by None e k = absurd (none-some _ k)
+    by (Some a) e k = refl
+
+-- an operation that clients see of the cell is open there
+opened_there : (c : Cell) (t : ℕ) (z : OpenOperation) → operation_at (cell_view manner c).operations t ≡ Some z → ((operation c t).closed ≡ false) × (operation_view (length c.servers) (operation c t) (1, 0) ≡ z)
+opened_there c t z h = by (operation c t).closed refl (sym (opened_is (length c.servers) manner.left t c.operations) ∙ h)
+  where
+    opens : (operation c t).closed ≡ false → opened (length c.servers) manner.left t (operation c t) ≡ Some (operation_view (length c.servers) (operation c t) (1, 0))
+    opens f = rw f refl
+
+    by : (b : Bool) → (operation c t).closed ≡ b → opened (length c.servers) manner.left t (operation c t) ≡ Some z → ((operation c t).closed ≡ false) × (operation_view (length c.servers) (operation c t) (1, 0) ≡ z)
+    by true e k = absurd (none-some z (sym (rw e refl) ∙ k))
+    by false e k = (e, same_Some _ _ (sym (opens e) ∙ k))
+
+-- what is left is the same too
+pub exact : (v : FileView) (c : Cell) → Shows v.loglet (cell_view manner c) → Seen v → ((t : ℕ) → IsToldAs c.cut (operation c t) (answer_at v.answers t)) → (t : ℕ) → operation_at v.loglet.operations t ≡ operation_at (cell_view manner c).operations t
+exact v c e seen told t = by (operation_at (cell_view manner c).operations t) refl (operation_at v.loglet.operations t) refl
+  where
+    alike : (x y : Option OpenOperation) → operation_at (cell_view manner c).operations t ≡ x → operation_at v.loglet.operations t ≡ y → IsAlike x y
+    alike x y p q = subst (λ (z : Option OpenOperation). IsAlike z y) p (subst (λ (z : Option OpenOperation). IsAlike (operation_at (cell_view manner c).operations t) z) q (e.operations t))
+
+    by : (x : Option OpenOperation) → operation_at (cell_view manner c).operations t ≡ x → (y : Option OpenOperation) → operation_at v.loglet.operations t ≡ y → operation_at v.loglet.operations t ≡ operation_at (cell_view manner c).operations t
+    by None p None q = q ∙ sym p
+    by None p (Some a) q = absurd (alike None (Some a) p q)
+    by (Some b) p None q = absurd (alike (Some b) None p q)
+    by (Some b) p (Some a) q =
+        let there = opened_there c t b p in
+        let left : a.left ≡ b.left = seen.lefts t a q ∙ left_same c.cut (operation c t) (answer_at v.answers t) there.0 (told t) ∙ ap (λ (o : OpenOperation). o.left) there.1 in
+        let same : a ≡ b = alike (Some b) (Some a) p q ∙ ap (λ (l : ℕ × ℕ). record b { left = l }) left in
+        q ∙ ap (λ (o : OpenOperation). Some o) same ∙ sym p
 
 shut_one : (c : Cell) (s : Server) → c.servers ≡ s ∷ [] → is_shut c ≡ is_sealed s
 shut_one c s e = ap (λ (ss : List Server). is_majority (length ss) (λ i. is_sealed (get_or ss i no_server))) e ∙ one_majority (λ i. is_sealed (get_or (s ∷ []) i no_server))
@@ -71,7 +115,7 @@ same_tied old new c h loglet answers server = record {
   lawful = h.lawful;
   spelled = h.spelled;
   shows = subst (λ (x : LogletView). x ≡ record (cell_view manner c) { operations = x.operations }) (sym loglet) h.shows;
-  operations = λ t. subst (λ (x : LogletView). Rattle.file_loglet.specs.Steps.IsAlike (operation_at (cell_view manner c).operations t) (operation_at x.operations t)) (sym loglet) (h.operations t);
+  operations = λ t. ap (λ (x : LogletView). operation_at x.operations t) loglet ∙ h.operations t;
   server = h.server ∙ ap (λ (s : Server). s ∷ []) (sym server);
   told = λ t. subst (λ (xs : List (ℕ × Option Answer)). IsToldAs c.cut (operation c t) (answer_at xs t)) (sym answers) (h.told t);
   wants = h.wants;
@@ -88,13 +132,14 @@ tied old new c steps qs rs os fs h strays is still seen faults told wants =
     let one : d.servers ≡ new.server ∷ [] = ap (λ (x : Cell). x.servers) is in
     let shown = shows_still old.loglet new.loglet (cell_view manner c) (cell_view manner d) (shows_of old c h) still (run_still steps c strays)
     (shut_one d new.server one ∙ sym seen.shut) (ap (λ (x : Cell). cell_counted (length x.faults)) is ∙ faults) (down_one d new.server one ∙ sym seen.down) in
+    let tells : (q : ℕ) → IsToldAs d.cut (operation d q) (answer_at new.answers q) = λ q. subst (λ (x : Cell). IsToldAs x.cut (operation x q) (answer_at new.answers q)) (sym is) (told q) in
     record {
       lawful = run_lawful steps c h.lawful;
       spelled = run_spelled steps c strays h.spelled;
       shows = shown.shows;
-      operations = shown.operations;
+      operations = exact new d shown seen tells;
       server = one;
-      told = λ q. subst (λ (x : Cell). IsToldAs x.cut (operation x q) (answer_at new.answers q)) (sym is) (told q);
+      told = tells;
       wants = λ q. subst (λ (x : Cell). IsWithin x.cut (operation x q)) (sym is) (wants q);
     }
 
@@ -134,16 +179,8 @@ pub record OpenIn (c : Cell) (t : ℕ) (a : OpenOperation) : Type 0 where
 pub open_in : (v : FileView) (c : Cell) (t : ℕ) (a : OpenOperation) → IsCellOf v c → operation_at v.loglet.operations t ≡ Some a → OpenIn c t a
 open_in v c t a h is =
     let x = there_alike v.loglet (cell_view manner c) t a (shows_of v c h) is in
-    let seen : opened (length c.servers) manner.left t (operation c t) ≡ Some x.0 = sym (opened_is (length c.servers) manner.left t c.operations) ∙ x.1 in
-    let parts = by (operation c t).closed refl x.0 seen in
+    let parts = opened_there c t x.0 x.1 in
     record { is_open = parts.0; known = open_known c t parts.0; shown = x.2 ∙ ap (λ (b : OpenOperation). record b { left = a.left }) (sym parts.1) }
-  where
-    by : (b : Bool) → (operation c t).closed ≡ b → (z : OpenOperation) → opened (length c.servers) manner.left t (operation c t) ≡ Some z → ((operation c t).closed ≡ false) × (operation_view (length c.servers) (operation c t) (1, 0) ≡ z)
-    by true e z k = absurd (none-some z (sym (rw e refl) ∙ k))
-    by false e z k = (e, same_Some _ _ (sym (opens e) ∙ k))
-      where
-        opens : (operation c t).closed ≡ false → opened (length c.servers) manner.left t (operation c t) ≡ Some (operation_view (length c.servers) (operation c t) (1, 0))
-        opens f = rw f refl
 
 ---- a step that is one call
 

@@ -9,7 +9,7 @@ use Rattle.loglet_api.specs.declared.call.LogletCall.{LogletCall}
 use Rattle.loglet_api.specs.declared.call.LogletCall.TheVariants as calls
 use Rattle.loglet_api.specs.declared.call.LogletAnswer.{LogletAnswer}
 use Rattle.loglet_api.specs.declared.call.LogletAnswer.TheVariants.{Refusal, Taken, Restarted}
-use Rattle.loglet_api.specs.View.{Operation as OpenOperation, operation_at}
+use Rattle.loglet_api.specs.View.{operation_at}
 use Rattle.loglet_api.specs.Step.{LogletStep, task_of}
 use Rattle.quorum_cell.specs.declared.message.Ask.{Ask}
 use Rattle.quorum_cell.specs.declared.message.Ask.TheVariants.{Tail as AskTail, Read as AskRead}
@@ -39,13 +39,6 @@ manner = record { kind = File; rounds = 1; left = λ t. (1, 0) }
 abbrev pub start_at : ℕ → ℕ → Cell
 start_at room faults = record (start 1 room (2 ^ 62)) { faults = replicate faults 1 }
 
--- the same operation, or none, but for what is left to do
-abbrev pub IsAlike : Option OpenOperation → Option OpenOperation → Type 0
-IsAlike None None = Unit {0}
-IsAlike (Some a) (Some b) = b ≡ record a { left = b.left }
-IsAlike None (Some b) = ⊥
-IsAlike (Some a) None = ⊥
-
 -- What an operation is answered is what it came to in the cell, if that is taken where the cut is here. One that has no
 -- answer came to nothing yet.
 abbrev pub IsToldAs : ℕ → Operation → Option Answer → Type 0
@@ -56,12 +49,12 @@ IsToldAs cut o (Some answer) = (o.closed ≡ false) × (taken cut o o.decided �
 abbrev pub IsWithin : ℕ → Operation → Type 0
 IsWithin cut o = (n : ℕ) → o.aim ≡ aims.Trim n → o.want ≤ cut
 
--- It shows what clients see of the cell, its server is that of the cell, and its answers are what the operations came to.
+-- It shows what clients see of the cell, the open operations in any order; its server is that of the cell, and its answers are what the operations came to.
 pub record IsCellOf (v : FileView) (c : Cell) : Type 0 where
   pub lawful : IsLawful c
   pub spelled : IsSpelled c
   pub shows : v.loglet ≡ record (cell_view manner c) { operations = v.loglet.operations }
-  pub operations : (t : ℕ) → IsAlike (operation_at (cell_view manner c).operations t) (operation_at v.loglet.operations t)
+  pub operations : (t : ℕ) → operation_at v.loglet.operations t ≡ operation_at (cell_view manner c).operations t
   pub server : c.servers ≡ v.server ∷ []
   pub told : (t : ℕ) → IsToldAs c.cut (operation c t) (answer_at v.answers t)
   pub wants : (t : ℕ) → IsWithin c.cut (operation c t)

@@ -5,6 +5,7 @@ use Rattle.file_loglet.proofs.Wholes.{step_whole, alike_whole}
 use Rattle.file_loglet.proofs.Serving.{still_served}
 use Rattle.file_loglet.proofs.Calls.{whole_refused, whole_begun, whole_unchanged, unchanged_shown, counts_begun}
 use Rattle.file_loglet.proofs.Carrying.{nothing_steps, begin_steps, full_steps, same_answers}
+use Rattle.file_loglet.proofs.Ties.{seen_new}
 use Rattle.file_loglet.proofs.file.FileLogletLoglet.begin.Goals as goal
 
 pub invariant_of-self : goal.invariant_of-self
@@ -64,7 +65,7 @@ returns-clause-counts g c =
 
 pub returns-then-is_full-clause-goes : goal.returns-then-is_full-clause-goes
 returns-then-is_full-clause-goes g c =
-    full_steps _ _ c.args.op (returns-then-is_full-clause-step g c) (ap (λ (w : FileView). w.answers) c.self.view_is) (ap (λ (w : FileView). w.server) c.self.view_is)
+    full_steps _ _ (seen_new c.self.inside.room c.self.inside.entries.items c.self.inside.server c.refused-self-inside.result c.self.inside.pending) c.args.op (returns-then-is_full-clause-step g c) (ap (λ (w : FileView). w.answers) c.self.view_is) (ap (λ (w : FileView). w.server) c.self.view_is)
 
 pub returns-in_default-clause-goes : goal.returns-in_default-clause-goes
 returns-in_default-clause-goes g c =
@@ -74,4 +75,4 @@ returns-in_default-clause-goes g c =
 
 pub returns-clause-goes : goal.returns-clause-goes
 returns-clause-goes g c =
-    begin_steps _ _ c.args.op _ (returns-clause-step g c) (ap (λ (w : FileView). w.server) c.self.view_is) (returns-clause-counts g c).1
+    begin_steps _ _ (seen_new c.self.inside.room c.add.new.entries.items c.self.inside.server c.begun-marks.result c.add.new.pending) c.args.op _ (returns-clause-step g c) (ap (λ (w : FileView). w.server) c.self.view_is) (returns-clause-counts g c).1

@@ -4,6 +4,7 @@ use Rattle.file_loglet.proofs.Wholes.{step_whole, forgotten}
 use Rattle.file_loglet.proofs.Calls.{forgets_answer}
 use Rattle.file_loglet.specs.File.{FileView}
 use Rattle.file_loglet.proofs.Carrying.{forget_steps}
+use Rattle.file_loglet.proofs.Ties.{seen_new}
 use Rattle.file_loglet.proofs.file.FileLogletLoglet.forget.Goals as goal
 
 pub invariant_of-self : goal.invariant_of-self
@@ -23,4 +24,4 @@ returns-clause-puts g c =
     forgets_answer i.room i.entries.items i.server i.marks i.pending c.remove.new.self _ c.args.ticket c.self.view_is (rw c.number.ensures at c.remove.ensures.updates)
 
 pub returns-clause-goes : goal.returns-clause-goes
-returns-clause-goes g c = forget_steps _ _ c.args.ticket (returns-clause-step g c) (returns-clause-puts g c) (ap (λ (w : FileView). w.server) c.self.view_is)
+returns-clause-goes g c = forget_steps _ _ (seen_new c.self.inside.room c.self.inside.entries.items c.self.inside.server c.self.inside.marks c.remove.new.self) c.args.ticket (returns-clause-step g c) (returns-clause-puts g c) (ap (λ (w : FileView). w.server) c.self.view_is)

@@ -3,6 +3,7 @@ use Rattle.file_loglet.proofs.Wholes.{step_whole, alike_whole}
 use Rattle.file_loglet.proofs.Calls.{whole_taken, taken_small, size_small, whole_unchanged, unchanged_shown, undecided_whole, takes_whole, waits_whole}
 use Rattle.file_loglet.specs.File.{FileView}
 use Rattle.file_loglet.proofs.Carrying.{take_steps, wait_steps}
+use Rattle.file_loglet.proofs.Ties.{seen_new}
 use Rattle.file_loglet.proofs.file.FileLogletLoglet.take.Goals as goal
 
 pub invariant_of-self : goal.invariant_of-self
@@ -55,4 +56,4 @@ returns-in_err-task-clause-goes g c =
 
 pub returns-clause-goes : goal.returns-clause-goes
 returns-clause-goes g c =
-    take_steps _ _ c.args.ticket c.told-answer.result (returns-clause-step g c) (returns-clause-takes g c) (ap (λ (w : FileView). w.server) c.self.view_is)
+    take_steps _ _ (seen_new c.self.inside.room c.self.inside.entries.items c.self.inside.server c.told-self-inside.result c.take_decided.new.pending) c.args.ticket c.told-answer.result (returns-clause-step g c) (returns-clause-takes g c) (ap (λ (w : FileView). w.server) c.self.view_is)
