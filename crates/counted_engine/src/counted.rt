@@ -1,5 +1,7 @@
 //! An engine that counts the items that go down through it.
-ghost use Rattle.std.specs.Prelude.{◌≡◌, ◌+◌, ◌-◌, ◌^◌, IfOk, OnErr, OnOk, min};
+ghost use Rattle.std.specs.Prelude.{◌≡◌, ◌+◌, ◌-◌, ◌^◌, true, List, IfOk, OnErr, OnOk, min};
+ghost use Rattle.delos_types.specs.Spaces.{SpaceMap};
+ghost use Rattle.delos_types.specs.declared.place.Place.{Place};
 ghost use Rattle.engine_api.specs.Packing.{IsProposable};
 ghost use Rattle.engine_steps.specs.Steps.{DownStep};
 
@@ -28,11 +30,15 @@ impl<E: Engine> Counted<E> {
     }
 }
 
-/// It is of the kind of the engine within, and keeps what that keeps, so each of its calls is the same step.
+/// It is of the kind of the engine within, and keeps and knows what that does, so each of its calls is the same step.
 impl<E: Engine> Engine for Counted<E> {
     ghost kind_of = { λ c. E.kind_of c.inner };
 
     ghost kept = { λ c. E.kept c.inner };
+
+    ghost knows = { λ c. E.knows c.inner };
+
+    ghost posted = { λ c. E.posted c.inner };
 
     fn kind(&self) -> u8 {
         self.inner.kind()
@@ -47,6 +53,8 @@ impl<E: Engine> Engine for Counted<E> {
         requires { IsProposable item }
         ensures step { IfOk result (λ down. DownStep (E.kind_of self.old.inner) origin (E.kept self.old.inner) item down (E.kept self.new.inner)) }
         ensures err { OnErr result (E.kept self.new.inner ≡ E.kept self.old.inner) }
+        ensures known { (space : SpaceMap) → E.knows self.old.inner space ≡ true → E.knows self.new.inner space ≡ true }
+        ensures posted { (places : List Place) → E.posted self.old.inner places → E.posted self.new.inner places }
         ensures kind { E.kind_of self.new.inner ≡ E.kind_of self.old.inner }
         ensures counted { OnOk result (self.new.items ≡ min (self.old.items + 1) (2 ^ 64 - 1)) }
         ensures refused { OnErr result (self.new.items ≡ self.old.items) }

@@ -1,5 +1,7 @@
 //! One engine takes the items of an entry in order, and is told their replies.
-ghost use Rattle.std.specs.Prelude.{◌≡◌, ℕ, List, ◌++◌, map, IfOk, OnOk};
+ghost use Rattle.std.specs.Prelude.{◌≡◌, ℕ, true, List, ◌++◌, map, IfOk, OnOk};
+ghost use Rattle.delos_types.specs.declared.place.Place.{Place};
+ghost use Rattle.engine_steps.specs.Hearing.{own};
 ghost use Rattle.engine_steps.specs.Steps.{UpStep, BackStep};
 ghost use Rattle.engine_steps.specs.declared.engine.Up.{Up};
 ghost use Rattle.log_laws.specs.Rises.{Level, Hears, passed, answered, at_place};
@@ -13,8 +15,8 @@ use log_laws::rising::{Rising, Told};
 use std::alloc::{AllocError, Global};
 use std::collections::VecDeque;
 
-/// The engine takes the items in order: answers what goes on up, and adds the replies to `told`.
-/// Nothing is copied.
+/// The engine takes the items in order: answers what goes on up, and adds the replies to `told`. It
+/// knows the space, and goes on knowing it. Nothing is copied.
 pub fn level(
     engine: &mut Box<dyn Engine + Send>,
     alloc: Global,
@@ -22,7 +24,10 @@ pub fn level(
     items: VecDeque<Rising>,
     told: &mut Vec<Told>,
 ) -> Result<VecDeque<Rising>, AllocError>
+    requires known { knows engine.old (own (kind_of engine.old) (contents space.old)) ≡ true }
     ensures step { IfOk result (λ outs. (more : List Told) × Level (kind_of engine.old) (contents space.old) items.items outs.items more (contents space.new) × (told.new.items ≡ told.old.items ++ more)) }
+    ensures known { OnOk result (knows engine.new (own (kind_of engine.new) (contents space.new)) ≡ true) }
+    ensures posted { (places : List Place) → posted engine.old places → posted engine.new places }
     ensures kind { kind_of engine.new ≡ kind_of engine.old }
     ensures kept { kept engine.new ≡ kept engine.old }
     ensures beginning { beginning space.new ≡ beginning space.old }
@@ -44,7 +49,10 @@ fn up_one(
     outs: &mut VecDeque<Rising>,
     told: &mut Vec<Told>,
 ) -> Result<(), AllocError>
+    requires known { knows engine.old (own (kind_of engine.old) (contents space.old)) ≡ true }
     ensures step { OnOk result ((up : Up) × UpStep (kind_of engine.old) (contents space.old) x.place x.item up (contents space.new) × (outs.new.items ≡ outs.old.items ++ passed x up) × (told.new.items ≡ told.old.items ++ answered x up)) }
+    ensures known { OnOk result (knows engine.new (own (kind_of engine.new) (contents space.new)) ≡ true) }
+    ensures posted { (places : List Place) → posted engine.old places → posted engine.new places }
     ensures kind { kind_of engine.new ≡ kind_of engine.old }
     ensures kept { kept engine.new ≡ kept engine.old }
     ensures beginning { beginning space.new ≡ beginning space.old }
@@ -72,7 +80,10 @@ fn up_at(
     place: Place,
     item: &Item,
 ) -> Result<Up, AllocError>
+    requires known { knows engine.old (own (kind_of engine.old) (contents space.old)) ≡ true }
     ensures step { IfOk result (λ up. UpStep (kind_of engine.old) (contents space.old) place item.now up (contents space.new)) }
+    ensures known { OnOk result (knows engine.new (own (kind_of engine.new) (contents space.new)) ≡ true) }
+    ensures posted { (places : List Place) → posted engine.old places → posted engine.new places }
     ensures kind { kind_of engine.new ≡ kind_of engine.old }
     ensures kept { kept engine.new ≡ kept engine.old }
     ensures beginning { beginning space.new ≡ beginning space.old }
@@ -90,14 +101,17 @@ fn pass_on(place: Place, behind: ItemList, outs: &mut VecDeque<Rising>) -> Resul
     Ok(())
 }
 
-/// The engine is told the replies in order.
+/// The engine is told the replies in order. It knows the space, and goes on knowing it.
 pub fn hear(
     engine: &mut Box<dyn Engine + Send>,
     alloc: Global,
     space: &mut dyn Space,
     told: &[Told],
 ) -> Result<(), AllocError>
+    requires known { knows engine.old (own (kind_of engine.old) (contents space.old)) ≡ true }
     ensures step { OnOk result (Hears (kind_of engine.old) (contents space.old) told.now (contents space.new)) }
+    ensures known { OnOk result (knows engine.new (own (kind_of engine.new) (contents space.new)) ≡ true) }
+    ensures posted { (places : List Place) → posted engine.old places → posted engine.new places }
     ensures kind { kind_of engine.new ≡ kind_of engine.old }
     ensures kept { kept engine.new ≡ kept engine.old }
     ensures beginning { beginning space.new ≡ beginning space.old }
@@ -114,7 +128,10 @@ fn back_at(
     space: &mut dyn Space,
     t: &Told,
 ) -> Result<(), AllocError>
+    requires known { knows engine.old (own (kind_of engine.old) (contents space.old)) ≡ true }
     ensures step { OnOk result (BackStep (kind_of engine.old) (contents space.old) t.now.place t.now.item t.now.reply (contents space.new)) }
+    ensures known { OnOk result (knows engine.new (own (kind_of engine.new) (contents space.new)) ≡ true) }
+    ensures posted { (places : List Place) → posted engine.old places → posted engine.new places }
     ensures kind { kind_of engine.new ≡ kind_of engine.old }
     ensures kept { kept engine.new ≡ kept engine.old }
     ensures beginning { beginning space.new ≡ beginning space.old }

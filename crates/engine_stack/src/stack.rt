@@ -1,9 +1,15 @@
 //! The engines of one node, from the lowest to the highest.
-ghost use Rattle.std.specs.Prelude.{◌≡◌, ◌≢◌, ℕ, ◌≤◌, List, ◌++◌, [], ◌∷◌, drop, length, map, IfOk, OnOk, OnErr};
+ghost use Rattle.std.specs.Prelude.{◌≡◌, ◌≢◌, ℕ, ◌+◌, ◌≤◌, true, List, ◌++◌, [], ◌∷◌, drop, take, length, map, IfOk, OnOk, OnErr};
+ghost use Rattle.std.specs.List.{list_all};
+ghost use Rattle.delos_types.specs.Spaces.{SpaceMap};
+ghost use Rattle.delos_types.specs.declared.place.Place.{Place};
+ghost use Rattle.engine_steps.specs.Hearing.{own, Each};
 ghost use Rattle.engine_api.specs.Packing.{IsProposable};
 ghost use Rattle.engine_steps.specs.Steps.{BatchFlush};
 ghost use Rattle.engine_steps.specs.Words.{opened_items};
 ghost use Rattle.delos_types.specs.declared.entry.Entry.{Entry};
+ghost use Rattle.log_laws.specs.Appearing.{IsNotAfter};
+ghost use Rattle.log_laws.specs.Order.{EachPair};
 ghost use Rattle.log_laws.specs.State.{IsStateOf, Grows};
 ghost use Rattle.log_laws.specs.Rises.{Rises, Sinks, Applies, Proposes, placed_items, acted_in, lowest};
 
@@ -53,6 +59,8 @@ impl Stack {
         requires item { IsProposable item }
         ensures step { IfOk result (λ packed. Proposes self.old.origin (lowest (map (λ e. kept e) self.old.engines.items)) item packed (lowest (map (λ e. kept e) self.new.engines.items))) }
         ensures err { OnErr result (lowest (map (λ e. kept e) self.new.engines.items) ≡ lowest (map (λ e. kept e) self.old.engines.items)) }
+        ensures known { (space : SpaceMap) → list_all (λ e. knows e (own (kind_of e) space)) self.old.engines.items ≡ true → list_all (λ e. knows e (own (kind_of e) space)) self.new.engines.items ≡ true }
+        ensures posted { (told : List (List Place)) → Each (λ e places. posted e places) self.old.engines.items told → Each (λ e places. posted e places) self.new.engines.items told }
         ensures kinds { map (λ e. kind_of e) self.new.engines.items ≡ map (λ e. kind_of e) self.old.engines.items }
         ensures origin { self.new.origin ≡ self.old.origin }
     {
@@ -66,6 +74,8 @@ impl Stack {
         requires kinds { map (λ e. kind_of e) self.old.engines.items ≡ 1 ∷ 2 ∷ 3 ∷ 4 ∷ 5 ∷ [] }
         ensures step { IfOk result (λ packed. BatchFlush self.old.origin (lowest (map (λ e. kept e) self.old.engines.items)) packed (lowest (map (λ e. kept e) self.new.engines.items))) }
         ensures err { OnErr result (lowest (map (λ e. kept e) self.new.engines.items) ≡ lowest (map (λ e. kept e) self.old.engines.items)) }
+        ensures known { (space : SpaceMap) → list_all (λ e. knows e (own (kind_of e) space)) self.old.engines.items ≡ true → list_all (λ e. knows e (own (kind_of e) space)) self.new.engines.items ≡ true }
+        ensures posted { (told : List (List Place)) → Each (λ e places. posted e places) self.old.engines.items told → Each (λ e places. posted e places) self.new.engines.items told }
         ensures kinds { map (λ e. kind_of e) self.new.engines.items ≡ map (λ e. kind_of e) self.old.engines.items }
         ensures origin { self.new.origin ≡ self.old.origin }
     {
@@ -73,8 +83,13 @@ impl Stack {
         flush_at(&mut self.engines[0], alloc, origin)
     }
 
-    /// The engines go on from the states in their space.
+    /// The engines go on from the states in their space, the lowest first: each knows what the space
+    /// has of its kind, whatever it knew before.
     pub fn load(&mut self, space: &dyn Space) -> Result<(), AllocError>
+        ensures known { OnOk result (list_all (λ e. knows e (own (kind_of e) (contents space.now))) self.new.engines.items ≡ true) }
+        // Where memory runs out, those below one know the space, and those above it heard nothing.
+        ensures lowest_first { OnErr result ((n : ℕ) × (list_all (λ e. knows e (own (kind_of e) (contents space.now))) (take n self.new.engines.items) ≡ true) × (drop (n + 1) self.new.engines.items ≡ drop (n + 1) self.old.engines.items)) }
+        ensures posted { (told : List (List Place)) → Each (λ e places. posted e places) self.old.engines.items told → Each (λ e places. posted e places) self.new.engines.items told }
         ensures kinds { map (λ e. kind_of e) self.new.engines.items ≡ map (λ e. kind_of e) self.old.engines.items }
         ensures kept { map (λ e. kept e) self.new.engines.items ≡ map (λ e. kept e) self.old.engines.items }
         ensures origin { self.new.origin ≡ self.old.origin }
@@ -84,6 +99,8 @@ impl Stack {
 
     /// What acted at a place is stored: each engine is told, the lowest first. It takes no memory.
     pub fn post_place(&mut self, place: Place)
+        ensures known { (space : SpaceMap) → list_all (λ e. knows e (own (kind_of e) space)) self.old.engines.items ≡ true → list_all (λ e. knows e (own (kind_of e) space)) self.new.engines.items ≡ true }
+        ensures posted { (told : List (List Place)) → Each (λ e places. posted e places) self.old.engines.items told → Each (λ e places. posted e places) self.new.engines.items (map (λ places. places ++ place ∷ []) told) }
         ensures kinds { map (λ e. kind_of e) self.new.engines.items ≡ map (λ e. kind_of e) self.old.engines.items }
         ensures kept { map (λ e. kept e) self.new.engines.items ≡ map (λ e. kept e) self.old.engines.items }
         ensures origin { self.new.origin ≡ self.old.origin }
@@ -91,7 +108,8 @@ impl Stack {
         post_all(&mut self.engines, place);
     }
 
-    /// The entry at a position comes up: what acts there, in order, with its replies. An entry that is
+    /// The entry at a position comes up: what acts there, in order, with its replies. The engines know
+    /// the space, and go on knowing it where memory suffices. An entry that is
     /// malformed, or of which an item is, does nothing. It takes time that grows with the entry's length,
     /// and for each item, and each rank that it frees, some look-ups and changes of the space.
     pub fn apply_entry(
@@ -102,10 +120,15 @@ impl Stack {
         entry: &Entry,
     ) -> Result<Vec<Acted>, AllocError>
         requires kinds { map (λ e. kind_of e) self.old.engines.items ≡ 1 ∷ 2 ∷ 3 ∷ 4 ∷ 5 ∷ [] }
+        requires known { list_all (λ e. knows e (own (kind_of e) (contents txn.old))) self.old.engines.items ≡ true }
         // The space was the state of whatever log stands below the position: now it is that of the log
         // with the entry at its end, and what acts there behind what acted before is answered.
         ensures grows { IfOk result (λ acted. (log : List Entry) → length log ≡ pos → IsStateOf log (contents txn.old) → Grows log entry.now acted.items (contents txn.new)) }
         ensures step { IfOk result (λ acted. Applies (contents txn.old) pos entry.now acted.items (contents txn.new)) }
+        // Of what acts none stands before one that acted earlier: those at one place stand together.
+        ensures in_order { IfOk result (λ acted. EachPair (λ a b. IsNotAfter a.place b.place) acted.items) }
+        ensures known { OnOk result (list_all (λ e. knows e (own (kind_of e) (contents txn.new))) self.new.engines.items ≡ true) }
+        ensures posted { (told : List (List Place)) → Each (λ e places. posted e places) self.old.engines.items told → Each (λ e places. posted e places) self.new.engines.items told }
         ensures kinds { map (λ e. kind_of e) self.new.engines.items ≡ map (λ e. kind_of e) self.old.engines.items }
         ensures kept { map (λ e. kept e) self.new.engines.items ≡ map (λ e. kept e) self.old.engines.items }
         ensures origin { self.new.origin ≡ self.old.origin }
@@ -130,6 +153,8 @@ fn descend(
     requires kinds { map (λ e. kind_of e) engines.old.items ≡ 1 ∷ 2 ∷ 3 ∷ 4 ∷ 5 ∷ [] }
     requires item { IsProposable item }
     ensures item { IfOk result (λ out. out ≡ item) }
+    ensures known { (space : SpaceMap) → list_all (λ e. knows e (own (kind_of e) space)) engines.old.items ≡ true → list_all (λ e. knows e (own (kind_of e) space)) engines.new.items ≡ true }
+    ensures posted { (told : List (List Place)) → Each (λ e places. posted e places) engines.old.items told → Each (λ e places. posted e places) engines.new.items told }
     ensures kinds { map (λ e. kind_of e) engines.new.items ≡ map (λ e. kind_of e) engines.old.items }
     ensures kept { map (λ e. kept e) engines.new.items ≡ map (λ e. kept e) engines.old.items }
 {
@@ -151,6 +176,8 @@ fn through(
     requires kind { kind_of engine.old ≢ 1 }
     requires item { IsProposable item }
     ensures item { IfOk result (λ out. out ≡ item) }
+    ensures known { (space : SpaceMap) → knows engine.old space ≡ true → knows engine.new space ≡ true }
+    ensures posted { (places : List Place) → posted engine.old places → posted engine.new places }
     ensures kind { kind_of engine.new ≡ kind_of engine.old }
     ensures kept { kept engine.new ≡ kept engine.old }
 {
@@ -173,6 +200,8 @@ fn pack_at(
     requires item { IsProposable item }
     ensures step { IfOk result (λ packed. Proposes origin (kept engine.old) item packed (kept engine.new)) }
     ensures err { OnErr result (kept engine.new ≡ kept engine.old) }
+    ensures known { (space : SpaceMap) → knows engine.old space ≡ true → knows engine.new space ≡ true }
+    ensures posted { (places : List Place) → posted engine.old places → posted engine.new places }
     ensures kind { kind_of engine.new ≡ kind_of engine.old }
 {
     match engine.down(alloc, origin, item)? {
@@ -191,6 +220,8 @@ fn flush_at(
     requires { kind_of engine.old ≡ 1 }
     ensures step { IfOk result (λ packed. BatchFlush origin (kept engine.old) packed (kept engine.new)) }
     ensures err { OnErr result (kept engine.new ≡ kept engine.old) }
+    ensures known { (space : SpaceMap) → knows engine.old space ≡ true → knows engine.new space ≡ true }
+    ensures posted { (places : List Place) → posted engine.old places → posted engine.new places }
     ensures kind { kind_of engine.new ≡ kind_of engine.old }
 {
     let packed = engine.flush(alloc, origin)?;
@@ -198,6 +229,9 @@ fn flush_at(
 }
 
 fn load_all(engines: &mut Vec<Box<dyn Engine + Send>>, space: &dyn Space) -> Result<(), AllocError>
+    ensures known { OnOk result (list_all (λ e. knows e (own (kind_of e) (contents space.now))) engines.new.items ≡ true) }
+    ensures lowest_first { OnErr result ((n : ℕ) × (list_all (λ e. knows e (own (kind_of e) (contents space.now))) (take n engines.new.items) ≡ true) × (drop (n + 1) engines.new.items ≡ drop (n + 1) engines.old.items)) }
+    ensures posted { (told : List (List Place)) → Each (λ e places. posted e places) engines.old.items told → Each (λ e places. posted e places) engines.new.items told }
     ensures kinds { map (λ e. kind_of e) engines.new.items ≡ map (λ e. kind_of e) engines.old.items }
     ensures kept { map (λ e. kept e) engines.new.items ≡ map (λ e. kept e) engines.old.items }
 {
@@ -208,6 +242,8 @@ fn load_all(engines: &mut Vec<Box<dyn Engine + Send>>, space: &dyn Space) -> Res
 }
 
 fn load_at(engine: &mut Box<dyn Engine + Send>, space: &dyn Space) -> Result<(), AllocError>
+    ensures known { OnOk result (knows engine.new (own (kind_of engine.new) (contents space.now)) ≡ true) }
+    ensures posted { (places : List Place) → posted engine.old places → posted engine.new places }
     ensures kind { kind_of engine.new ≡ kind_of engine.old }
     ensures kept { kept engine.new ≡ kept engine.old }
 {
@@ -215,6 +251,8 @@ fn load_at(engine: &mut Box<dyn Engine + Send>, space: &dyn Space) -> Result<(),
 }
 
 fn post_all(engines: &mut Vec<Box<dyn Engine + Send>>, place: Place)
+    ensures known { (space : SpaceMap) → list_all (λ e. knows e (own (kind_of e) space)) engines.old.items ≡ true → list_all (λ e. knows e (own (kind_of e) space)) engines.new.items ≡ true }
+    ensures posted { (told : List (List Place)) → Each (λ e places. posted e places) engines.old.items told → Each (λ e places. posted e places) engines.new.items (map (λ places. places ++ place ∷ []) told) }
     ensures kinds { map (λ e. kind_of e) engines.new.items ≡ map (λ e. kind_of e) engines.old.items }
     ensures kept { map (λ e. kept e) engines.new.items ≡ map (λ e. kept e) engines.old.items }
 {
@@ -224,6 +262,8 @@ fn post_all(engines: &mut Vec<Box<dyn Engine + Send>>, place: Place)
 }
 
 fn post_at(engine: &mut Box<dyn Engine + Send>, place: Place)
+    ensures known { (space : SpaceMap) → knows engine.old space ≡ true → knows engine.new space ≡ true }
+    ensures posted { (places : List Place) → posted engine.old places → posted engine.new (places ++ place ∷ []) }
     ensures kind { kind_of engine.new ≡ kind_of engine.old }
     ensures kept { kept engine.new ≡ kept engine.old }
 {
@@ -238,6 +278,8 @@ fn open_at(
     requires { kind_of engine.old ≡ 1 }
     ensures items { IfOk result (λ items. items ≡ opened_items entry.now) }
     ensures few { IfOk result (λ items. length items ≤ 16) }
+    ensures known { (space : SpaceMap) → knows engine.old space ≡ true → knows engine.new space ≡ true }
+    ensures posted { (places : List Place) → posted engine.old places → posted engine.new places }
     ensures kind { kind_of engine.new ≡ kind_of engine.old }
     ensures kept { kept engine.new ≡ kept engine.old }
 {
@@ -267,7 +309,11 @@ fn rise(
     space: &mut dyn Space,
     items: VecDeque<Rising>,
 ) -> Result<Vec<Told>, AllocError>
+    requires kinds { map (λ e. kind_of e) engines.old.items ≡ 1 ∷ 2 ∷ 3 ∷ 4 ∷ 5 ∷ [] }
+    requires known { list_all (λ e. knows e (own (kind_of e) (contents space.old))) engines.old.items ≡ true }
     ensures step { IfOk result (λ told. Rises (drop 1 (map (λ e. kind_of e) engines.old.items)) (contents space.old) items.items told.items (contents space.new)) }
+    ensures known { OnOk result (list_all (λ e. knows e (own (kind_of e) (contents space.new))) engines.new.items ≡ true) }
+    ensures posted { (told : List (List Place)) → Each (λ e places. posted e places) engines.old.items told → Each (λ e places. posted e places) engines.new.items told }
     ensures kinds { map (λ e. kind_of e) engines.new.items ≡ map (λ e. kind_of e) engines.old.items }
     ensures kept { map (λ e. kept e) engines.new.items ≡ map (λ e. kept e) engines.old.items }
     ensures beginning { beginning space.new ≡ beginning space.old }
@@ -287,7 +333,11 @@ fn sink(
     space: &mut dyn Space,
     told: &[Told],
 ) -> Result<(), AllocError>
+    requires kinds { map (λ e. kind_of e) engines.old.items ≡ 1 ∷ 2 ∷ 3 ∷ 4 ∷ 5 ∷ [] }
+    requires known { list_all (λ e. knows e (own (kind_of e) (contents space.old))) engines.old.items ≡ true }
     ensures step { OnOk result (Sinks (map (λ e. kind_of e) engines.old.items) (contents space.old) told.now (contents space.new)) }
+    ensures known { OnOk result (list_all (λ e. knows e (own (kind_of e) (contents space.new))) engines.new.items ≡ true) }
+    ensures posted { (told : List (List Place)) → Each (λ e places. posted e places) engines.old.items told → Each (λ e places. posted e places) engines.new.items told }
     ensures kinds { map (λ e. kind_of e) engines.new.items ≡ map (λ e. kind_of e) engines.old.items }
     ensures kept { map (λ e. kept e) engines.new.items ≡ map (λ e. kept e) engines.old.items }
     ensures beginning { beginning space.new ≡ beginning space.old }

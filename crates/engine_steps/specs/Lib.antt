@@ -2,3 +2,4 @@ pub mod Layout
 pub mod Replies
 pub mod Words
 pub mod Steps
+pub mod Hearing

@@ -1,7 +1,10 @@
 //! What an engine is.
-ghost use Rattle.std.specs.Prelude.{◌≡◌, ℕ, List, IfOk, OnOk, OnErr};
+ghost use Rattle.std.specs.Prelude.{◌≡◌, ℕ, Bool, true, List, [], ◌∷◌, ◌++◌, IfOk, OnOk, OnErr};
+ghost use Rattle.delos_types.specs.Spaces.{SpaceMap};
 ghost use Rattle.delos_types.specs.declared.item.Item.{Item};
+ghost use Rattle.delos_types.specs.declared.place.Place.{Place};
 ghost use Rattle.engine_api.specs.Packing.{IsProposable};
+ghost use Rattle.engine_steps.specs.Hearing.{own};
 ghost use Rattle.engine_steps.specs.Steps.{DownStep, FlushStep, OpenStep, UpStep, BackStep};
 
 use delos_types::bytes::Bytes;
@@ -38,18 +41,30 @@ pub enum Up {
 /// space, the place and the item that it is given: an engine keeps nothing but what is in its space,
 /// and the batch engine the items that it was given and hasn't packed. Where memory runs out, what
 /// is kept stays, and the space may have some of the call's changes.
+///
+/// An engine may also keep in memory what it read of the space of its kind, and what is stored of it.
+/// It says so by `knows` and `posted`, and may rest on what the calls ask for. One that keeps nothing
+/// leaves both out.
 pub trait Engine: Drop {
     ghost kind_of: { Self → ℕ };
 
     /// The items that the batch engine keeps; other engines keep none.
     ghost kept: { Self → List Item };
 
+    /// Whether what it keeps in memory of the space of its kind is what stands there.
+    ghost knows: { Self → SpaceMap → Bool } = { λ _ _. true };
+
+    /// What it keeps in memory where these places were posted to it, in this order.
+    ghost posted: { Self → List Place → Type 0 } = { λ _ _. Unit {0} };
+
     /// 1 batch, 2 session, 3 view, 4 trim, 5 table.
     fn kind(&self) -> u8
         ensures { result ≡ kind_of self.now };
 
-    /// The engine goes on from the state in its space.
+    /// The engine goes on from the state in its space, whatever it knew before.
     fn load(&mut self, space: &dyn Space) -> Result<(), AllocError>
+        ensures known { OnOk result (knows self.new (own (kind_of self.new) (contents space.now)) ≡ true) }
+        ensures posted { (places : List Place) → posted self.old places → posted self.new places }
         ensures kind { kind_of self.new ≡ kind_of self.old }
         ensures kept { kept self.new ≡ kept self.old };
 
@@ -58,21 +73,28 @@ pub trait Engine: Drop {
         requires { IsProposable item }
         ensures step { IfOk result (λ down. DownStep (kind_of self.old) origin (kept self.old) item down (kept self.new)) }
         ensures err { OnErr result (kept self.new ≡ kept self.old) }
+        ensures known { (space : SpaceMap) → knows self.old space ≡ true → knows self.new space ≡ true }
+        ensures posted { (places : List Place) → posted self.old places → posted self.new places }
         ensures kind { kind_of self.new ≡ kind_of self.old };
 
     /// What is kept goes down now, as an entry of node `origin`.
     fn flush(&mut self, alloc: Global, origin: NodeId) -> Result<Option<Entry>, AllocError>
         ensures step { IfOk result (λ packed. FlushStep (kind_of self.old) origin (kept self.old) packed (kept self.new)) }
         ensures err { OnErr result (kept self.new ≡ kept self.old) }
+        ensures known { (space : SpaceMap) → knows self.old space ≡ true → knows self.new space ≡ true }
+        ensures posted { (places : List Place) → posted self.old places → posted self.new places }
         ensures kind { kind_of self.new ≡ kind_of self.old };
 
     /// The items of an entry, which the batch engine opens; others give none.
     fn open(&mut self, alloc: Global, entry: &Entry) -> Result<ItemList, AllocError>
         ensures step { IfOk result (OpenStep (kind_of self.old) entry.now) }
+        ensures known { (space : SpaceMap) → knows self.old space ≡ true → knows self.new space ≡ true }
+        ensures posted { (places : List Place) → posted self.old places → posted self.new places }
         ensures kept { kept self.new ≡ kept self.old }
         ensures kind { kind_of self.new ≡ kind_of self.old };
 
-    /// An item on its way up, which stands at a place or is freed there.
+    /// An item on its way up, which stands at a place or is freed there. The engine knows the space, and
+    /// goes on knowing it.
     fn up(
         &mut self,
         alloc: Global,
@@ -80,12 +102,16 @@ pub trait Engine: Drop {
         place: Place,
         item: &Item,
     ) -> Result<Up, AllocError>
+        requires known { knows self.old (own (kind_of self.old) (contents space.old)) ≡ true }
         ensures step { IfOk result (λ up. UpStep (kind_of self.old) (contents space.old) place item.now up (contents space.new)) }
+        ensures known { OnOk result (knows self.new (own (kind_of self.new) (contents space.new)) ≡ true) }
+        ensures posted { (places : List Place) → posted self.old places → posted self.new places }
         ensures beginning { beginning space.new ≡ beginning space.old }
         ensures kept { kept self.new ≡ kept self.old }
         ensures kind { kind_of self.new ≡ kind_of self.old };
 
-    /// The item that this engine passed up was answered above.
+    /// The item that this engine passed up was answered above. The engine knows the space, and goes on
+    /// knowing it.
     fn back(
         &mut self,
         alloc: Global,
@@ -94,13 +120,19 @@ pub trait Engine: Drop {
         item: &Item,
         reply: &[u8],
     ) -> Result<(), AllocError>
+        requires known { knows self.old (own (kind_of self.old) (contents space.old)) ≡ true }
         ensures step { OnOk result (BackStep (kind_of self.old) (contents space.old) place item.now reply.now (contents space.new)) }
+        ensures known { OnOk result (knows self.new (own (kind_of self.new) (contents space.new)) ≡ true) }
+        ensures posted { (places : List Place) → posted self.old places → posted self.new places }
         ensures beginning { beginning space.new ≡ beginning space.old }
         ensures kept { kept self.new ≡ kept self.old }
         ensures kind { kind_of self.new ≡ kind_of self.old };
 
-    /// All that stands at a place was applied, and is stored. It can't fail.
+    /// All that stands at a place was applied, and is stored: it comes once for each place at which
+    /// something acted. It can't fail.
     fn post(&mut self, place: Place)
+        ensures known { (space : SpaceMap) → knows self.old space ≡ true → knows self.new space ≡ true }
+        ensures posted { (places : List Place) → posted self.old places → posted self.new (places ++ place ∷ []) }
         ensures kept { kept self.new ≡ kept self.old }
         ensures kind { kind_of self.new ≡ kind_of self.old };
 }

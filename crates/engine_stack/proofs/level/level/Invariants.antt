@@ -1,4 +1,6 @@
-use Rattle.std.proofs.Common.{◌≡◌, ◌++◌, List}
+use Rattle.std.proofs.Common.{◌≡◌, ◌++◌, List, true}
+use Rattle.delos_types.specs.declared.place.Place.{Place}
+use Rattle.engine_steps.specs.Hearing.{own}
 use Rattle.std.specs.VecDeque.{deque_len}
 use Rattle.log_laws.specs.declared.rising.Told.{Told}
 use Rattle.engine_stack.proofs.SoFar.{PassedSoFar}
@@ -15,6 +17,8 @@ invariant-loop-x g l =
     × ((goal.Engine-dyn g (l.engine.vtable, l.engine.value)).kept l.engine.value ≡ kept)
     × ((more : List Told) × (l.told.items ≡ l.fn.told.items ++ more) × PassedSoFar kind start l.fn.items.items l.items.items l.outs.items more now)
     × ((goal.Space-dyn g l.space.now).beginning l.space.now.1 ≡ beginning)
+    × ((goal.Engine-dyn g (l.engine.vtable, l.engine.value)).knows l.engine.value (own ((goal.Engine-dyn g (l.engine.vtable, l.engine.value)).kind_of l.engine.value) now) ≡ true)
+    × ((places : List Place) → (goal.Engine-dyn g (l.fn.engine.vtable, l.fn.engine.value)).posted l.fn.engine.value places → (goal.Engine-dyn g (l.engine.vtable, l.engine.value)).posted l.engine.value places)
 
 abbrev pub decreases-loop-x : goal.decreases-loop-x
 decreases-loop-x g l = deque_len l.items

@@ -1,4 +1,7 @@
-use Rattle.std.proofs.Common.{◌≡◌, ◌≤◌, drop, map, length}
+use Rattle.std.proofs.Common.{◌≡◌, List, true, ◌≤◌, drop, map, length}
+use Rattle.std.specs.List.{list_all}
+use Rattle.delos_types.specs.declared.place.Place.{Place}
+use Rattle.engine_steps.specs.Hearing.{own, Each}
 use Rattle.log_laws.specs.Rises.{Sinks}
 use Rattle.engine_stack.proofs.stack.sink.Given as goal
 
@@ -13,6 +16,8 @@ invariant-loop-k g l =
     × (map (λ e. (goal.Engine-dyn g (e.vtable, e.value)).kept e.value) l.engines.items ≡ map (λ e. (goal.Engine-dyn g (e.vtable, e.value)).kept e.value) l.fn.engines.items)
     × Sinks (drop l.k kinds) start l.told now
     × ((goal.Space-dyn g l.space.now).beginning l.space.now.1 ≡ beginning)
+    × (list_all (λ e. (goal.Engine-dyn g (e.vtable, e.value)).knows e.value (own ((goal.Engine-dyn g (e.vtable, e.value)).kind_of e.value) now)) l.engines.items ≡ true)
+    × ((told : List (List Place)) → Each (λ e places. (goal.Engine-dyn g (e.vtable, e.value)).posted e.value places) l.fn.engines.items told → Each (λ e places. (goal.Engine-dyn g (e.vtable, e.value)).posted e.value places) l.engines.items told)
 
 abbrev pub decreases-loop-k : goal.decreases-loop-k
 decreases-loop-k g l = l.k
