@@ -1,6 +1,6 @@
 -- What the stack says of its engines, as a replica says it.
 use Rattle.std.proofs.Common.{◌≡◌, ℕ, List, length, subst, sym, Option, Some, None, Result, Ok, Err}
-use Rattle.std.specs.Prelude.{IfOk}
+use Rattle.std.specs.Prelude.{IfOk, OnOk}
 use Rattle.delos_types.specs.declared.entry.Entry.{Entry}
 use Rattle.delos_types.specs.declared.item.Item.{Item}
 use Rattle.delos_types.specs.Spaces.{SpaceMap}
@@ -26,3 +26,6 @@ pub grows_so : {A E : Type 0} (r : Result A E) (items : A → List Acted) (pos :
 grows_so r items pos e m0 m0' m m' before behind grows =
     subst (λ (n : SpaceMap). IfOk r (λ acted. (log : List Entry) → length log ≡ pos → IsStateOf log n → Grows log e (items acted) m')) before
     (subst (λ (n : SpaceMap). IfOk r (λ acted. (log : List Entry) → length log ≡ pos → IsStateOf log m0 → Grows log e (items acted) n)) (sym behind) grows)
+
+pub known_so : {A E : Type 0} (r : Result A E) (P : SpaceMap → Type 0) (m m' : SpaceMap) → m' ≡ m → OnOk r (P m) → OnOk r (P m')
+known_so r P m m' behind h = subst (λ (n : SpaceMap). OnOk r (P n)) (sym behind) h

@@ -1,7 +1,11 @@
 //! A store and the engines over it, as one replica.
-ghost use Rattle.std.specs.Prelude.{◌≡◌, ◌+◌, ◌<◌, ◌^◌, [], ◌∷◌};
-ghost use Rattle.replica_api.specs.Replica.{Survives};
-ghost use Rattle.local_replica.specs.Shown.{local_meaning, shown};
+ghost use Rattle.std.specs.Prelude.{◌≡◌, ◌+◌, ◌<◌, ◌^◌, true, List, [], ◌∷◌};
+ghost use Rattle.delos_types.specs.declared.place.Place.{Place};
+ghost use Rattle.disk_model.specs.Crash.{AnyCrash};
+ghost use Rattle.log_laws.specs.State.{IsStateOf};
+ghost use Rattle.replica_api.specs.Replica.{MayFindDuring, SpellsOne, Survives, Takes};
+ghost use Rattle.local_replica.specs.Posted.{Posts};
+ghost use Rattle.local_replica.specs.Shown.{Spells, local_meaning, shown};
 
 use crate::applying::{apply, reopen, stop};
 use crate::layers::Layers;
@@ -23,13 +27,14 @@ pub struct LocalReplica<E: Layers, D: Disk> {
     // The node, of which the entries are that go down.
     origin: NodeId,
     engines: E,
-    // Whether the engines go on from what the store shows.
+    // Whether the engines know what the store shows: they loaded it, and each transaction since then is kept.
     loaded: bool,
     store: Store<D>,
     // How many stops it was told, and how many reopenings that had memory.
     stops: u64,
     reopenings: u64,
     ghost kinds: { E.kinds engines ≡ 1 ∷ 2 ∷ 3 ∷ 4 ∷ 5 ∷ [] },
+    ghost known: { loaded ≡ true → E.knows engines store.contents ≡ true },
 }
 
 impl<E: Layers, D: Disk> LocalReplica<E, D> {
@@ -86,7 +91,14 @@ impl<E: Layers, D: Disk> Replica for LocalReplica<E, D> {
         self.store.is_down()
     }
 
-    fn apply(&mut self, entry: &Entry) -> Applied {
+    /// The engines are told of each place at which something acts in the entry, where it is kept.
+    fn apply(&mut self, entry: &Entry) -> Applied
+        requires { self.old.store.cursor + 1 < 2 ^ 64 }
+        ensures takes { Takes IsStateOf (shown self.old.store self.old.origin (E.waiting self.old.engines) self.old.stops self.old.reopenings) entry.now result (shown self.new.store self.new.origin (E.waiting self.new.engines) self.new.stops self.new.reopenings) }
+        ensures survives { Survives Spells (shown self.new.store self.new.origin (E.waiting self.new.engines) self.new.stops self.new.reopenings) }
+        ensures any_crash { AnyCrash self.old.store.disk.timeline self.new.store.disk.timeline (SpellsOne Spells (MayFindDuring IsStateOf (shown self.old.store self.old.origin (E.waiting self.old.engines) self.old.stops self.old.reopenings) entry.now)) }
+        ensures posted { (told : List (List Place)) → E.posted self.old.engines told → Posts (E.posted self.new.engines) told self.old.store.contents self.old.store.cursor entry.now result self.new.store.contents }
+    {
         apply(
             self.alloc,
             self.origin,

@@ -48,8 +48,9 @@ impl<E: Layers> Stack<E> {
         })
     }
 
-    /// The entry at a position comes up: what acts.
+    /// The entry at a position comes up, to engines that were loaded: what acts.
     fn come_up(&mut self, pos: u64, entry: &Entry) -> Result<Vec<Acted>, AllocError> {
+        self.engines.load(self.alloc, self.origin, &self.space)?;
         self.engines
             .apply(self.alloc, self.origin, &mut self.space, pos, entry)
     }

@@ -4,6 +4,7 @@ use Rattle.log_laws.specs.State.{IsStateOf}
 use Rattle.replica_api.specs.Replica.{Takes}
 use Rattle.local_replica.specs.Shown.{shown}
 use Rattle.local_replica.proofs.Showing.{shown_survives, stays_so, none_spent}
+use Rattle.local_replica.proofs.Posting.{posts_by}
 use Rattle.local_replica.proofs.applying.apply.Goals as goal
 
 pub returns-then-is_down-clause-survives : goal.returns-then-is_down-clause-survives
@@ -31,3 +32,9 @@ returns-clause-survives g c = λ s r. c.keep-kept.ensures.survives c.args.origin
 
 pub returns-clause-any_crash : goal.returns-clause-any_crash
 returns-clause-any_crash g c = λ s r. c.keep-kept.ensures.any_crash c.args.origin [] s r c.args.entry.now c.in-Ok.ensures.advances
+
+pub returns-clause-known : goal.returns-clause-known
+returns-clause-known g c = λ h. c.tell.ensures.known _ (ap (g.E.Layers.knows c.prepare.new.engines) (c.keep-kept.ensures.contents (sym c.done.ensures ∙ h)) ∙ c.in-Ok.ensures.known)
+
+pub returns-clause-posted : goal.returns-clause-posted
+returns-clause-posted g c = λ told h. posts_by _ told _ _ _ _ _ c.keep-kept.result _ c.in-Ok.ensures.grows c.in-Ok.ensures.in_order c.keep-kept.ensures.contents (c.tell.ensures.posted told (c.prepare.ensures.posted told h))

@@ -46,3 +46,6 @@ returns-in-Err-Memory-clause-survives g c = λ o w s r. shown_survives c.commit.
 
 pub returns-in-Err-Memory-clause-any_crash : goal.returns-in-Err-Memory-clause-any_crash
 returns-in-Err-Memory-clause-any_crash g c = λ o w s r e led. crash_during c.args.store.now (txn_commit (c.cursor-next.result + 1) c.args.txn) o w s r e c.commit.new.self.disk (ap (λ (n : ℕ). n + 1) c.cursor-next.ensures.cursor) led c.commit.ensures.any_crash
+
+pub returns-in-Ok-clause-contents : goal.returns-in-Ok-clause-contents
+returns-in-Ok-clause-contents g c = λ _. ap (λ (v : store.View). v.contents) c.in-Ok.ensures.ok
