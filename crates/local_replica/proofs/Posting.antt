@@ -48,16 +48,20 @@ push : (c : Bool) (k y : Place) (d : List Place) → k ∷ cond c d (d ++ y ∷ 
 push true k y d = refl
 push false k y d = refl
 
-snoc_from : (k : Place) (xs : List Place) (y : Place) → dedup_from same_place k (xs ++ y ∷ []) ≡ cond (same_place y (last_from k xs)) (dedup_from same_place k xs) (dedup_from same_place k xs ++ y ∷ [])
+-- what one place more does to a list behind this one
+abbrev OneMore : Place → List Place → Place → Type 0
+OneMore k xs y = dedup_from same_place k (xs ++ y ∷ []) ≡ cond (same_place y (last_from k xs)) (dedup_from same_place k xs) (dedup_from same_place k xs ++ y ∷ [])
+
+snoc_from : (k : Place) (xs : List Place) (y : Place) → OneMore k xs y
 snoc_from k [] y = refl
-snoc_from k (x ∷ xs) y = at (same_place x k) refl
+snoc_from k (x ∷ xs) y = at (same_place x k) refl (snoc_from k xs y) (snoc_from x xs y)
   where
-    at : (b : Bool) → same_place x k ≡ b
+    at : (b : Bool) → same_place x k ≡ b → OneMore k xs y → OneMore x xs y
         → cond b (dedup_from same_place k (xs ++ y ∷ [])) (k ∷ dedup_from same_place x (xs ++ y ∷ []))
         ≡ cond (same_place y (last_from x xs)) (cond b (dedup_from same_place k xs) (k ∷ dedup_from same_place x xs)) (cond b (dedup_from same_place k xs) (k ∷ dedup_from same_place x xs) ++ y ∷ [])
-    at true e =
-        subst (λ (z : Place). dedup_from same_place k (xs ++ y ∷ []) ≡ cond (same_place y (last_from z xs)) (dedup_from same_place k xs) (dedup_from same_place k xs ++ y ∷ [])) (sym (same_is x k e)) (snoc_from k xs y)
-    at false e = ap (λ (l : List Place). k ∷ l) (snoc_from x xs y) ∙ push (same_place y (last_from x xs)) k y (dedup_from same_place x xs)
+    at true e same other =
+        subst (λ (z : Place). dedup_from same_place k (xs ++ y ∷ []) ≡ cond (same_place y (last_from z xs)) (dedup_from same_place k xs) (dedup_from same_place k xs ++ y ∷ [])) (sym (same_is x k e)) same
+    at false e same other = ap (λ (l : List Place). k ∷ l) other ∙ push (same_place y (last_from x xs)) k y (dedup_from same_place x xs)
 
 -- one place more
 dedup-snoc : (xs : List Place) (y : Place) → dedup same_place (xs ++ y ∷ []) ≡ dedup same_place xs ++ new_place (last_place xs) y
@@ -141,21 +145,21 @@ apart p q (inr same) e = let off : true ≡ false = sym (same_itself p) ∙ ap (
 
 dedup-all : (P : Place → Type 0) (k : Place) (xs : List Place) → P k → AllByRecursion P xs → AllByRecursion P (dedup_from same_place k xs)
 dedup-all P k [] here h = (here, tt)
-dedup-all P k (x ∷ xs) here h = at (same_place x k)
+dedup-all P k (x ∷ xs) here h = at (same_place x k) (dedup-all P k xs here h.1) (dedup-all P x xs h.0 h.1)
   where
-    at : (b : Bool) → AllByRecursion P (cond b (dedup_from same_place k xs) (k ∷ dedup_from same_place x xs))
-    at true = dedup-all P k xs here h.1
-    at false = (here, dedup-all P x xs h.0 h.1)
+    at : (b : Bool) → AllByRecursion P (dedup_from same_place k xs) → AllByRecursion P (dedup_from same_place x xs) → AllByRecursion P (cond b (dedup_from same_place k xs) (k ∷ dedup_from same_place x xs))
+    at true same other = same
+    at false same other = (here, other)
 
 dedup-rises : (k : Place) (xs : List Place) → AllByRecursion (IsNotAfter k) xs → EachPair IsNotAfter xs → EachPair Precedes (dedup_from same_place k xs)
 dedup-rises k [] h pairs = (tt, tt)
-dedup-rises k (x ∷ xs) h pairs = at (same_place x k) refl
+dedup-rises k (x ∷ xs) h pairs = at (same_place x k) refl (dedup-rises k xs h.1 pairs.1) (dedup-rises x xs pairs.0 pairs.1)
   where
-    at : (b : Bool) → same_place x k ≡ b → EachPair Precedes (cond b (dedup_from same_place k xs) (k ∷ dedup_from same_place x xs))
-    at true e = dedup-rises k xs h.1 pairs.1
-    at false e =
+    at : (b : Bool) → same_place x k ≡ b → EachPair Precedes (dedup_from same_place k xs) → EachPair Precedes (dedup_from same_place x xs) → EachPair Precedes (cond b (dedup_from same_place k xs) (k ∷ dedup_from same_place x xs))
+    at true e same other = same
+    at false e same other =
         let first : Precedes k x = apart k x h.0 e in
-        (dedup-all (Precedes k) x xs first (all-imply (IsNotAfter x) (Precedes k) xs (λ y n. precedes_by k x y first n) pairs.0), dedup-rises x xs pairs.0 pairs.1)
+        (dedup-all (Precedes k) x xs first (all-imply (IsNotAfter x) (Precedes k) xs (λ y n. precedes_by k x y first n) pairs.0), other)
 
 map-all : (P : Place → Type 0) (acts : List Acted) → AllByRecursion (λ a. P a.place) acts → AllByRecursion P (map place_of acts)
 map-all P [] h = tt
@@ -182,6 +186,6 @@ pub made_by : (P : SpaceMap → Type 0) (v : store.View) (start txn : TxnView) �
 made_by P v start txn begun base h = subst (λ (m : SpaceMap). P (changing.applied m txn.changes)) (base ∙ ap (λ (t : TxnView). t.base) begun) h
 
 -- what acted grows the log, as the store shows its state
-pub grows_by : (v : store.View) (start txn : TxnView) (pos : ℕ) (e : Entry) (acted : List Acted) → start ≡ record { base = v.contents; changes = [] } → txn.base ≡ start.base → pos ≡ v.cursor → ((log : List Entry) → length log ≡ pos → IsStateOf log (contents_of start) → Grows log e acted (contents_of txn)) → (log : List Entry) → length log ≡ v.cursor → IsStateOf log v.contents → Grows log e acted (changing.applied v.contents txn.changes)
-grows_by v start txn pos e acted begun base at grows log len state =
-    made_by (λ m. Grows log e acted m) v start txn begun base (grows log (len ∙ sym at) (subst (λ (t : TxnView). IsStateOf log (contents_of t)) (sym begun) state))
+pub grows_by : (v : store.View) (start txn : TxnView) (e : Entry) (acted : List Acted) → start ≡ record { base = v.contents; changes = [] } → txn.base ≡ start.base → ((log : List Entry) → length log ≡ v.cursor → IsStateOf log (contents_of start) → Grows log e acted (contents_of txn)) → (log : List Entry) → length log ≡ v.cursor → IsStateOf log v.contents → Grows log e acted (changing.applied v.contents txn.changes)
+grows_by v start txn e acted begun base grows log len state =
+    made_by (λ m. Grows log e acted m) v start txn begun base (grows log len (subst (λ (t : TxnView). IsStateOf log (contents_of t)) (sym begun) state))

@@ -18,7 +18,7 @@ use Rattle.store_records.specs.Spelled.{committed, saved_of}
 use Rattle.store_records.specs.Spelled as spelled
 use Rattle.log_laws.specs.State.{IsStateOf}
 use Rattle.local_store.specs.View as store
-use Rattle.local_store.specs.View.{TxnView, contents_of, up_with}
+use Rattle.local_store.specs.View.{up_with}
 use Rattle.replica_api.specs.Replica.{ReplicaView, SpellsOne, Survives, Advances, Advanced, Failed, MayFind, MayFindDuring, Recovered, Tries, StaysDown, armed_by}
 use Rattle.local_replica.specs.Shown.{pair_of, shown, Spells}
 
@@ -37,12 +37,6 @@ shown_survives v o w s r h image is = found_by v o w s r image (h.left image is)
 -- nothing was written
 pub stays_so : (v : store.View) (o : ℕ) (w : List Item) (s r : ℕ) (e : Entry) → store.Survives v → AnyCrash v.disk.timeline v.disk.timeline (SpellsOne Spells (MayFindDuring IsStateOf (shown v o w s r) e))
 stays_so v o w s r e h = stays _ _ _ refl (λ image is. let f = shown_survives v o w s r h image is in (f.0, f.1, inl f.2))
-
--- what the engines made of a transaction that began with what the store shows
-pub led_by : (v : store.View) (start txn : TxnView) (pos : ℕ) (e : Entry) → start ≡ record { base = v.contents; changes = [] } → txn.base ≡ start.base → pos ≡ v.cursor → Advances IsStateOf (contents_of start) pos e (contents_of txn) → Advances IsStateOf v.contents v.cursor e (applied v.contents txn.changes)
-led_by v start txn pos e begun base at led =
-    subst (λ (m : SpaceMap). Advances IsStateOf v.contents v.cursor e (applied m txn.changes)) (base ∙ ap (λ (t : TxnView). t.base) begun)
-    (subst (λ (n : ℕ). Advances IsStateOf v.contents n e (contents_of txn)) at (subst (λ (t : TxnView). Advances IsStateOf (contents_of t) pos e (contents_of txn)) begun led))
 
 -- a crash inside a commit
 pub crash_during : (v : store.View) (c : Commit) (o : ℕ) (w : List Item) (s r : ℕ) (e : Entry) (new : DiskView) → c.cursor ≡ v.cursor + 1 → Advances IsStateOf v.contents v.cursor e (applied v.contents c.changes) → AnyCrashLeaves v.disk new (store.MayFindDuring v c) → AnyCrash v.disk.timeline new.timeline (SpellsOne Spells (MayFindDuring IsStateOf (shown v o w s r) e))

@@ -1,5 +1,5 @@
 -- A store, and what waits in the engines over it, as one replica.
-use Rattle.std.specs.Prelude.{◌≡◌, if◌then◌else◌, ℕ, List, Some}
+use Rattle.std.specs.Prelude.{◌≡◌, if◌then◌else◌, ℕ, Bool, true, false, List, Some}
 use Rattle.std.specs.Option.{option_map}
 use Rattle.delos_types.specs.declared.item.Item.{Item}
 use Rattle.journal_pair.specs.Records.{records_of}
@@ -8,6 +8,10 @@ use Rattle.store_records.specs.Spelled as spelled
 use Rattle.local_store.specs.View as store
 use Rattle.log_laws.specs.State.{IsStateOf}
 use Rattle.replica_api.specs.Replica.{Meaning, Saved, ReplicaView}
+use Rattle.replica_api.specs.declared.replica.Applied.{Applied}
+use Rattle.replica_api.specs.declared.replica.Applied.TheVariants as applied
+use Rattle.replica_api.specs.declared.replica.Reopened.{Reopened}
+use Rattle.replica_api.specs.declared.replica.Reopened.TheVariants as reopened
 
 -- what a store keeps
 abbrev pub pair_of : spelled.Saved → Saved
@@ -39,3 +43,13 @@ Spells image s = saved_of (records_of image) ≡ Some (record { cursor = s.curso
 -- what the log and the disk of a local replica mean
 abbrev pub local_meaning : Meaning
 local_meaning = record { state = IsStateOf; spells = Spells }
+
+-- memory ran out before the entry was kept
+abbrev pub lacks_memory : Applied → Bool
+lacks_memory applied.Memory = true
+lacks_memory answer = false
+
+-- a reopening found the store up, or opened it
+abbrev pub is_up : Reopened → Bool
+is_up reopened.Done = true
+is_up answer = false

@@ -13,7 +13,7 @@ ghost use Rattle.local_store.specs.View.{contents_of};
 ghost use Rattle.store_records.specs.Changing.{applied};
 ghost use Rattle.replica_api.specs.Replica.{SpellsOne, Survives, Advances, Takes, MayFind, MayFindDuring, Reopens, armed_by};
 ghost use Rattle.local_replica.specs.Posted.{Posts, is_done, told_of};
-ghost use Rattle.local_replica.specs.Shown.{shown, Spells};
+ghost use Rattle.local_replica.specs.Shown.{shown, Spells, is_up, lacks_memory};
 
 use crate::layers::Layers;
 use delos_types::entry::Entry;
@@ -88,6 +88,29 @@ fn prepare<E: Layers, D: Disk>(
     ensures waiting { E.waiting engines.new ≡ E.waiting engines.old }
 {
     let txn = begin(alloc, origin, engines, loaded, store)?;
+    let made = come_up(alloc, origin, engines, store, txn, entry)?;
+    Ok(made)
+}
+
+/// The entry comes up at the store's cursor, to engines that know the transaction's space.
+fn come_up<E: Layers, D: Disk>(
+    alloc: Global,
+    origin: NodeId,
+    engines: &mut E,
+    store: &Store<D>,
+    txn: Txn,
+    entry: &Entry,
+) -> Result<(Txn, Vec<Acted>), AllocError>
+    requires kinds { E.kinds engines.old ≡ 1 ∷ 2 ∷ 3 ∷ 4 ∷ 5 ∷ [] }
+    requires known { E.knows engines.old (contents_of txn) ≡ true }
+    ensures grows { IfOk result (λ made. (log : List Entry) → length log ≡ store.now.cursor → IsStateOf log (contents_of txn) → Grows log entry.now made.1.items (contents_of made.0)) }
+    ensures in_order { IfOk result (λ made. EachPair (λ a b. IsNotAfter a.place b.place) made.1.items) }
+    ensures base { IfOk result (λ made. made.0.base ≡ txn.base) }
+    ensures known { IfOk result (λ made. E.knows engines.new (contents_of made.0) ≡ true) }
+    ensures posted { (told : List (List Place)) → E.posted engines.old told → E.posted engines.new told }
+    ensures kinds { E.kinds engines.new ≡ E.kinds engines.old }
+    ensures waiting { E.waiting engines.new ≡ E.waiting engines.old }
+{
     let mut txn = txn;
     let acted = engines.apply(alloc, origin, &mut txn, store.cursor(), entry)?;
     Ok((txn, acted))
@@ -140,6 +163,7 @@ fn keep<D: Disk>(store: &mut Store<D>, txn: Txn) -> Applied
     requires { store.old.cursor + 1 < 2 ^ 64 }
     ensures takes { (origin : ℕ) (waiting : List Item) (stops reopenings : ℕ) (e : Entry) → store.old.down ≡ false → Advances IsStateOf store.old.contents store.old.cursor e (applied store.old.contents txn.changes) → Takes IsStateOf (shown store.old origin waiting stops reopenings) e result (shown store.new origin waiting stops reopenings) }
     ensures contents { is_done result ≡ true → store.new.contents ≡ applied store.old.contents txn.changes }
+    ensures no_fault { lacks_memory result ≡ true → store.new.disk.faults ≡ store.old.disk.faults }
     ensures survives { (origin : ℕ) (waiting : List Item) (stops reopenings : ℕ) → Survives Spells (shown store.new origin waiting stops reopenings) }
     ensures any_crash { (origin : ℕ) (waiting : List Item) (stops reopenings : ℕ) (e : Entry) → Advances IsStateOf store.old.contents store.old.cursor e (applied store.old.contents txn.changes) → AnyCrash store.old.disk.timeline store.new.disk.timeline (SpellsOne Spells (MayFindDuring IsStateOf (shown store.old origin waiting stops reopenings) e)) }
 {
@@ -188,6 +212,8 @@ fn tell<E: Layers>(
 /// Opens the store again, where it is down. It is counted, unless there was no memory.
 pub(crate) fn reopen<D: Disk>(store: &mut Store<D>, reopenings: &mut u64, word: u64) -> Reopened
     ensures reopens { (origin : ℕ) (waiting : List Item) (stops : ℕ) → Reopens (shown store.old origin waiting stops reopenings.old) word result (shown store.new origin waiting stops reopenings.new) }
+    ensures up { is_up result ≡ true → store.new.down ≡ false }
+    ensures word { is_up result ≡ true → store.old.down ≡ true → store.new.disk.word ≡ word }
     ensures survives { (origin : ℕ) (waiting : List Item) (stops : ℕ) → Survives Spells (shown store.new origin waiting stops reopenings.new) }
     ensures any_crash { (origin : ℕ) (waiting : List Item) (stops : ℕ) → AnyCrash store.old.disk.timeline store.new.disk.timeline (SpellsOne Spells (MayFind (shown store.old origin waiting stops reopenings.old))) }
 {

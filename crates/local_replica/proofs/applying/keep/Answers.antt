@@ -49,3 +49,6 @@ returns-in-Err-Memory-clause-any_crash g c = λ o w s r e led. crash_during c.ar
 
 pub returns-in-Ok-clause-contents : goal.returns-in-Ok-clause-contents
 returns-in-Ok-clause-contents g c = λ _. ap (λ (v : store.View). v.contents) c.in-Ok.ensures.ok
+
+pub returns-in-Err-Memory-clause-no_fault : goal.returns-in-Err-Memory-clause-no_fault
+returns-in-Err-Memory-clause-no_fault g c = λ _. c.commit.ensures.no_fault (c.in-Err-Memory.is ∙ ap (λ x. Err x) c.in-Err-Memory.field-0-is)

@@ -1,13 +1,12 @@
 use Rattle.std.proofs.Common.{◌≡◌, true}
-use Rattle.local_replica.proofs.Showing.{led_by}
 use Rattle.local_replica.proofs.Posting.{made_by, grows_by}
 use Rattle.local_replica.proofs.applying.prepare.Goals as goal
 
 pub returns-clause-advances : goal.returns-clause-advances
-returns-clause-advances g c = led_by c.args.store.now c.in_ok-txn.txn c.apply.new.txn c.cursor.result c.args.entry.now c.in_ok-txn.ensures.begun c.in_ok-acted.ensures.base c.cursor.ensures.cursor (λ log len state. (c.in_ok-acted.ensures.grows log len state).state)
+returns-clause-advances g c = λ log len state. (grows_by c.args.store.now c.in_ok-txn.txn c.in_ok-made.made.0 c.args.entry.now _ c.in_ok-txn.ensures.begun c.in_ok-made.ensures.base c.in_ok-made.ensures.grows log len state).state
 
 pub returns-clause-grows : goal.returns-clause-grows
-returns-clause-grows g c = grows_by c.args.store.now c.in_ok-txn.txn c.apply.new.txn c.cursor.result c.args.entry.now _ c.in_ok-txn.ensures.begun c.in_ok-acted.ensures.base c.cursor.ensures.cursor c.in_ok-acted.ensures.grows
+returns-clause-grows g c = grows_by c.args.store.now c.in_ok-txn.txn c.in_ok-made.made.0 c.args.entry.now _ c.in_ok-txn.ensures.begun c.in_ok-made.ensures.base c.in_ok-made.ensures.grows
 
 pub returns-clause-known : goal.returns-clause-known
-returns-clause-known g c = made_by (λ m. g.E.Layers.knows c.apply.new.self m ≡ true) c.args.store.now c.in_ok-txn.txn c.apply.new.txn c.in_ok-txn.ensures.begun c.in_ok-acted.ensures.base c.in_ok-acted.ensures.known
+returns-clause-known g c = made_by (λ m. g.E.Layers.knows c.come_up.new.engines m ≡ true) c.args.store.now c.in_ok-txn.txn c.in_ok-made.made.0 c.in_ok-txn.ensures.begun c.in_ok-made.ensures.base c.in_ok-made.ensures.known

@@ -1,4 +1,5 @@
 use Rattle.std.proofs.Common.{ℕ, Err, ap, sym, subst, ◌∙◌, inr}
+use Rattle.local_store.specs.View as store
 use Rattle.replica_api.specs.Replica.{Recovered, StaysDown}
 use Rattle.local_replica.specs.Shown.{shown}
 use Rattle.local_replica.proofs.Showing.{counts_one, shown_survives, crash_reopening, idle_crash, idle, recovered, stays_down, stays_so_down}
@@ -53,3 +54,6 @@ returns-in-Err-Memory-clause-survives g c = λ o w s. shown_survives c.reopen.ne
 
 pub returns-in-Err-Memory-clause-any_crash : goal.returns-in-Err-Memory-clause-any_crash
 returns-in-Err-Memory-clause-any_crash g c = λ o w s. crash_reopening c.args.store.now o w s c.args.reopenings.now c.reopen.new.self.disk c.reopen.ensures.any_crash
+
+pub returns-in-Ok-clause-up : goal.returns-in-Ok-clause-up
+returns-in-Ok-clause-up g c = λ _. ap (λ (v : store.View). v.down) c.in-Ok.ensures.ok.2
