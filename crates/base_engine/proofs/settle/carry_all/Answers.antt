@@ -1,4 +1,4 @@
-use Rattle.std.proofs.Common.{◌≡◌, ◌+◌, ◌∙◌, length, refl, ap, sym, subst, arith}
+use Rattle.std.proofs.Common.{◌≡◌, ◌+◌, ◌<◌, ◌∙◌, length, refl, ap, sym, subst, arith}
 use Rattle.virtual_log.proofs.OneTurn.{later_trans, later_refl}
 use Rattle.base_engine.specs.Settling.{view_of, Carried, LandsOldest, Begins}
 use Rattle.base_engine.proofs.Settling.{one_more, landed_more, landed_none, none_yet}
@@ -63,7 +63,8 @@ returns-in_err-carry_oldest-clause-once g c =
     let l = c.entry in
     let k = l.invariant.once in
     let m = c.in_err-carry_oldest.ensures.once in
-    (k.0 + m.0, omega (arith, k.1, m.1, c.carry_oldest.requires.some), begins_then (t.who c.args.log.now) (t.who l.log) k.0 m.0 (t.seen c.args.log.now) (t.seen l.log) (t.seen c.carry_oldest.new.log) l.invariant.who k.2 m.2)
+    let some : 0 < length l.outbox.entries.items = grind (arith, c.entry-test.true, c.is_empty.ensures) in
+    (k.0 + m.0, omega (arith, k.1, m.1, some), begins_then (t.who c.args.log.now) (t.who l.log) k.0 m.0 (t.seen c.args.log.now) (t.seen l.log) (t.seen c.carry_oldest.new.log) l.invariant.who k.2 m.2)
 
 pub returns-clause-once : goal.returns-clause-once
 returns-clause-once g c =
@@ -75,5 +76,6 @@ returns-clause-begun g c = λ calm.
     let t = g.L.SharedLog in
     let l = c.entry in
     let k = l.invariant.begun calm in
-    let all : k.0 ≡ length c.args.outbox.now.entries.items = omega (arith, k.1) in
+    let over : length l.outbox.entries.items ≡ 0 = grind (arith, c.entry-test.false, c.is_empty.ensures) in
+    let all : k.0 ≡ length c.args.outbox.now.entries.items = omega (arith, k.1, over) in
     subst (λ n. Begins (t.who c.args.log.now) n (t.seen c.args.log.now) (t.seen l.log)) all k.2

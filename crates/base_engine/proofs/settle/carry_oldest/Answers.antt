@@ -62,10 +62,14 @@ pub returns-in-Ok-clause-begun : goal.returns-in-Ok-clause-begun
 returns-in-Ok-clause-begun g c = λ _. begins_of _ _ _ _ _ c.in-Ok.ensures.once
 
 pub returns-in-Memory-clause-once : goal.returns-in-Memory-clause-once
-returns-in-Memory-clause-once g c = begins_at_most _ _ _ _ c.in-Err.fault c.in-Err.ensures.at_most
+returns-in-Memory-clause-once g c =
+    let t = g.L.SharedLog in
+    begins_at_most (t.who c.args.log.now) c.index-2.result.now (t.seen c.args.log.now) (t.seen c.append.new.self) c.in-Err.fault c.in-Err.ensures.at_most
 
 pub returns-in-Because-clause-once : goal.returns-in-Because-clause-once
-returns-in-Because-clause-once g c = begins_at_most _ _ _ _ c.in-Err.fault c.in-Err.ensures.at_most
+returns-in-Because-clause-once g c =
+    let t = g.L.SharedLog in
+    begins_at_most (t.who c.args.log.now) c.index-2.result.now (t.seen c.args.log.now) (t.seen c.append.new.self) c.in-Err.fault c.in-Err.ensures.at_most
 
 pub returns-in-Because-clause-begun : goal.returns-in-Because-clause-begun
 returns-in-Because-clause-begun g c = λ calm. absurd (never_calm c.args.outbox.now.unsettled c.in-Because.cause (sym c.lose.ensures.unsettled ∙ calm))
