@@ -1,8 +1,8 @@
 -- The calls of a file loglet as steps of a cell of one server.
 use Rattle.std.proofs.Common.{◌≡◌, ℕ, zero, suc, ◌<◌, ◌≤◌, Bool, true, false, set, get_or, drop, refl, sym, ◌∙◌, ap, subst, arith, List, [], ◌∷◌, ◌++◌, length, Option, Some, None, inl, inr, map, length-append}
-use Rattle.std.specs.Prelude.{◌⊎◌, ◌&&◌, nat_lt, nat_le, if◌then◌else◌, is_some, slice_get, Ok, Err, All}
+use Rattle.std.specs.Prelude.{◌⊎◌, ◌&&◌, nat_lt, if◌then◌else◌, is_some, slice_get, Ok, Err, All}
 use Rattle.std.specs.List.{list_any}
-use Rattle.std.proofs.lemmas.Bool.{false≢true, cases_Bool, leb-true}
+use Rattle.std.proofs.lemmas.Bool.{false≢true, cases_Bool}
 use Rattle.std.proofs.lemmas.Option.{none-some, same_Some}
 use Rattle.std.proofs.lemmas.List.{append-nil, get_or-set_same, set-set}
 use Rattle.delos_types.specs.declared.entry.Entry.{Entry}
@@ -17,8 +17,7 @@ use Rattle.loglet_api.specs.declared.call.LogletCall.TheVariants as calling
 use Rattle.loglet_api.specs.declared.call.LogletAnswer.{LogletAnswer}
 use Rattle.loglet_api.specs.declared.call.LogletAnswer.TheVariants.{Begun, Refusal, Carried, Taken, Forgotten, Restarted}
 use Rattle.loglet_api.specs.View.{LogletView, Operation as OpenOperation, operation_at}
-use Rattle.loglet_api.specs.Step.{LogletStep, CanBegin, IsFull, Begins, IsUndecidedAt, bumped, task_of}
-use Rattle.majority_rule.specs.Majority.{is_majority}
+use Rattle.loglet_api.specs.Step.{LogletStep, CanBegin, IsFull, Begins, TakesAnswer, Forgets, Moves, IsUndecidedAt, bumped, task_of, entries_of}
 use Rattle.quorum_cell.specs.declared.message.Ask.{Ask}
 use Rattle.quorum_cell.specs.declared.message.Reply.{Reply}
 use Rattle.quorum_cell.specs.declared.message.Request.{Request}
@@ -44,21 +43,26 @@ use Rattle.file_loglet.specs.Asking.{asks, Follows, Begins as BeginsAsked}
 use Rattle.file_loglet.specs.Celling.{task_for, IsAsking}
 use Rattle.file_loglet.specs.Held.{Held, Brings}
 use Rattle.file_loglet.specs.Pending.{Answers, answer_at, PutsAnswer, IsUnspoken, told_at, PendingMap, shown_answer}
-use Rattle.file_loglet.specs.State.{counted, down_of}
 use Rattle.file_loglet.specs.declared.marks.Marks.{Marks}
-use Rattle.file_loglet.specs.File.{FileView, file_view, IsDecidedAtOnce, IsAnswered, IsCarried, IsTaken, Takes, held_in}
+use Rattle.file_loglet.specs.File.{FileView, file_view, counted, down_of, IsDecidedAtOnce, IsAnswered, IsCarried, IsTaken, Takes, held_in}
 use Rattle.file_loglet.specs.Steps.{start_at, manner, IsToldAs, IsWithin, IsCellOf, asks_first, asks_in, HasAsked, IsCarry, aim_of, Reaches, FileStep}
 use Rattle.file_loglet.proofs.Stills.{Still, AreStrays, moves_still, still_same, strays_both, run_lawful, shows_begun, shows_full, shows_taken, shows_forgotten}
 use Rattle.file_loglet.proofs.Stepping.{follows_all, cell_at, hearing, Asked, AskedFirst, asks_none, asks_all, asks_some, asks_one}
-use Rattle.file_loglet.proofs.Deciding.{one_majority, Decides, Known, heard_too, up_decides, down_decides, unspoken_decides, unspoken_or}
-use Rattle.file_loglet.proofs.Ties.{Seen, exact, OpenIn, shows_of, same_tied, tied, told_put, puts_here, puts_other, open_in, call_of, told_later}
+use Rattle.file_loglet.proofs.Deciding.{Decides, Known, heard_too, up_decides, down_decides, unspoken_decides, unspoken_or}
+use Rattle.file_loglet.proofs.Ties.{Seen, exact, OpenIn, shows_of, same_tied, tied, told_put, puts_here, puts_other, open_in, call_of, told_later, server_holds, firm_within}
+
+-- in this cell the loglet takes the steps of the call, and the cell has these entries then
+pub record Comes (c : Cell) (call : LogletCall) (answer : LogletAnswer) (after : FileView) (entries : List Entry) : Type 0 where
+  pub reaches : Reaches c call answer after
+  pub keeps : (run_cell reaches.steps c).entries ≡ entries
 
 ---- no step
 
-pub nothing_steps : (old new : FileView) (call : LogletCall) (answer : LogletAnswer) → LogletStep old.loglet call answer new.loglet → ((c : Cell) → Rattle.file_loglet.specs.Steps.StepsOf c call answer []) → new.loglet ≡ old.loglet → new.answers ≡ old.answers → new.server ≡ old.server → FileStep old call answer new
-nothing_steps old new call answer s none loglet answers server = record {
-  loglet = s;
-  cells = λ c h. record { steps = []; are = none c; cell = same_tied old new c h loglet answers server };
+pub nothing_steps : (old new : FileView) (call : LogletCall) (answer : LogletAnswer) → ((c : Cell) → Rattle.file_loglet.specs.Steps.StepsOf c call answer []) → new.loglet ≡ old.loglet → new.answers ≡ old.answers → new.server ≡ old.server
+    → (c : Cell) → IsCellOf old c → Comes c call answer new c.entries
+nothing_steps old new call answer none loglet answers server c h = record {
+  reaches = record { steps = []; are = none c; cell = same_tied old new c h loglet answers server };
+  keeps = refl;
 }
 
 ---- an operation begins
@@ -119,57 +123,63 @@ begun_wants v c aim h =
     (λ j n e. (let le = h.wants j n e in let up = cut_rises c aim in omega (arith, le, up)))
     (λ n e. (let same : wanted c aim ≡ cut_after c aim = ap (wanted c) e ∙ sym (ap (cut_after c) e) in omega (arith, same)))
 
-pub begin_steps : (old new : FileView) → Seen new → (op : Op) (t : ℕ) → LogletStep old.loglet (calling.Begin op) (Begun t) new.loglet → new.server ≡ old.server → ((q : ℕ) → answer_at new.answers q ≡ answer_at old.answers q) → FileStep old (calling.Begin op) (Begun t) new
-begin_steps old new seen op t s server_same same = record {
-  loglet = s;
-  cells = λ c h. record { steps = steps_of.Begin (aim_of op) ∷ []; are = refl; cell = by c h (is_full c (aim_of op)) refl };
-}
-  where
-    does : Begins old.loglet op t new.loglet
-    does = s.does
+adds : (c : Cell) (op : Op) → (admit c (aim_of op)).entries ≡ c.entries ++ entries_of op
+adds c (Append e) = refl
+adds c (Settle n) = sym (append-nil c.entries)
+adds c Tail = sym (append-nil c.entries)
+adds c Seal = sym (append-nil c.entries)
+adds c (Read p) = sym (append-nil c.entries)
+adds c (Trim n) = sym (append-nil c.entries)
 
-    by : (c : Cell) → IsCellOf old c → (b : Bool) → is_full c (aim_of op) ≡ b → IsCellOf new (begin c (aim_of op))
-    by c h true full = absurd (does.room (full_as old c op h (begins_call c op true full h.lawful h.spelled s.can).does.0))
-    by c h false full =
-        let k = begins_call c op false full h.lawful h.spelled s.can in
+pub begin_steps : (old new : FileView) → Seen new → (op : Op) (t : ℕ) → CanBegin op → Begins old.loglet op t new.loglet → new.server ≡ old.server → ((q : ℕ) → answer_at new.answers q ≡ answer_at old.answers q)
+    → (c : Cell) → IsCellOf old c → Comes c (calling.Begin op) (Begun t) new (c.entries ++ entries_of op)
+begin_steps old new seen op t can does server_same same c h =
+    let x = by (is_full c (aim_of op)) refl in
+    record { reaches = record { steps = steps_of.Begin (aim_of op) ∷ []; are = refl; cell = x.0 }; keeps = x.1 }
+  where
+    by : (b : Bool) → is_full c (aim_of op) ≡ b → IsCellOf new (begin c (aim_of op)) × ((begin c (aim_of op)).entries ≡ c.entries ++ entries_of op)
+    by true full = absurd (does.room (full_as old c op h (begins_call c op true full h.lawful h.spelled can).does.0))
+    by false full =
+        let k = begins_call c op false full h.lawful h.spelled can in
         let is : begin c (aim_of op) ≡ admit c (aim_of op) = rw full refl in
         let shown = shows_begun old.loglet new.loglet (cell_view manner c) (cell_view manner (begin c (aim_of op))) op t (length c.operations) (shows_of old c h) does k.does in
-        let tells : (q : ℕ) → IsToldAs (begin c (aim_of op)).cut (operation (begin c (aim_of op)) q) (answer_at new.answers q) = λ q. subst (λ (x : Cell). IsToldAs x.cut (operation x q) (answer_at new.answers q)) (sym is) (begun_told old new c op h (cut_rises c (aim_of op)) same q) in
-        record {
-          lawful = step_lawful c (steps_of.Begin (aim_of op)) h.lawful;
-          spelled = spelled_after c (steps_of.Begin (aim_of op)) h.spelled (brings op s.can);
-          shows = shown.shows;
-          operations = exact new (begin c (aim_of op)) shown seen tells;
-          server = ap (λ (x : Cell). x.servers) is ∙ h.server ∙ ap (λ (x : Server). x ∷ []) (sym server_same);
-          told = tells;
-          wants = λ q. subst (λ (x : Cell). IsWithin x.cut (operation x q)) (sym is) (begun_wants old c (aim_of op) h q);
-        }
+        let tells : (q : ℕ) → IsToldAs (begin c (aim_of op)).cut (operation (begin c (aim_of op)) q) (answer_at new.answers q) = λ q. subst (λ (x : Cell). IsToldAs x.cut (operation x q) (answer_at new.answers q)) (sym is) (begun_told old new c op h (cut_rises c (aim_of op)) same q) in (
+          record {
+            lawful = step_lawful c (steps_of.Begin (aim_of op)) h.lawful;
+            spelled = spelled_after c (steps_of.Begin (aim_of op)) h.spelled (brings op can);
+            shows = shown.shows;
+            operations = exact new (begin c (aim_of op)) shown seen tells;
+            server = ap (λ (x : Cell). x.servers) is ∙ h.server ∙ ap (λ (x : Server). x ∷ []) (sym server_same);
+            told = tells;
+            wants = λ q. subst (λ (x : Cell). IsWithin x.cut (operation x q)) (sym is) (begun_wants old c (aim_of op) h q);
+          },
+          ap (λ (x : Cell). x.entries) is ∙ adds c op,
+        )
 
-pub full_steps : (old new : FileView) → Seen new → (op : Op) → LogletStep old.loglet (calling.Begin op) (Refusal Full) new.loglet → new.answers ≡ old.answers → new.server ≡ old.server → FileStep old (calling.Begin op) (Refusal Full) new
-full_steps old new seen op s answers server = record {
-  loglet = s;
-  cells = λ c h. record { steps = steps_of.Begin (aim_of op) ∷ []; are = refl; cell = by c h (is_full c (aim_of op)) refl };
-}
+pub full_steps : (old new : FileView) → Seen new → (op : Op) → CanBegin op → IsFull old.loglet op × (new.loglet ≡ record old.loglet { faults = bumped old.loglet.faults }) → new.answers ≡ old.answers → new.server ≡ old.server
+    → (c : Cell) → IsCellOf old c → Comes c (calling.Begin op) (Refusal Full) new c.entries
+full_steps old new seen op can does answers server c h =
+    let x = by (is_full c (aim_of op)) refl in
+    record { reaches = record { steps = steps_of.Begin (aim_of op) ∷ []; are = refl; cell = x.0 }; keeps = x.1 }
   where
-    does : IsFull old.loglet op × (new.loglet ≡ record old.loglet { faults = bumped old.loglet.faults })
-    does = s.does
-
-    by : (c : Cell) → IsCellOf old c → (b : Bool) → is_full c (aim_of op) ≡ b → IsCellOf new (begin c (aim_of op))
-    by c h false full = absurd ((begins_call c op false full h.lawful h.spelled s.can).does.room (full_from old c op h does.0))
-    by c h true full =
-        let k = begins_call c op true full h.lawful h.spelled s.can in
+    by : (b : Bool) → is_full c (aim_of op) ≡ b → IsCellOf new (begin c (aim_of op)) × ((begin c (aim_of op)).entries ≡ c.entries)
+    by false full = absurd ((begins_call c op false full h.lawful h.spelled can).does.room (full_from old c op h does.0))
+    by true full =
+        let k = begins_call c op true full h.lawful h.spelled can in
         let is : begin c (aim_of op) ≡ with_fault c (length c.servers) = rw full refl in
         let shown = shows_full old.loglet new.loglet (cell_view manner c) (cell_view manner (begin c (aim_of op))) (shows_of old c h) does.1 k.does.1 in
-        let tells : (q : ℕ) → IsToldAs (begin c (aim_of op)).cut (operation (begin c (aim_of op)) q) (answer_at new.answers q) = λ q. subst (λ (x : Cell). IsToldAs x.cut (operation x q) (answer_at new.answers q)) (sym is) (subst (λ (xs : List (ℕ × Option Answer)). IsToldAs c.cut (operation c q) (answer_at xs q)) (sym answers) (h.told q)) in
-        record {
-          lawful = step_lawful c (steps_of.Begin (aim_of op)) h.lawful;
-          spelled = spelled_after c (steps_of.Begin (aim_of op)) h.spelled (brings op s.can);
-          shows = shown.shows;
-          operations = exact new (begin c (aim_of op)) shown seen tells;
-          server = ap (λ (x : Cell). x.servers) is ∙ h.server ∙ ap (λ (x : Server). x ∷ []) (sym server);
-          told = tells;
-          wants = λ q. subst (λ (x : Cell). IsWithin x.cut (operation x q)) (sym is) (h.wants q);
-        }
+        let tells : (q : ℕ) → IsToldAs (begin c (aim_of op)).cut (operation (begin c (aim_of op)) q) (answer_at new.answers q) = λ q. subst (λ (x : Cell). IsToldAs x.cut (operation x q) (answer_at new.answers q)) (sym is) (subst (λ (xs : List (ℕ × Option Answer)). IsToldAs c.cut (operation c q) (answer_at xs q)) (sym answers) (h.told q)) in (
+          record {
+            lawful = step_lawful c (steps_of.Begin (aim_of op)) h.lawful;
+            spelled = spelled_after c (steps_of.Begin (aim_of op)) h.spelled (brings op can);
+            shows = shown.shows;
+            operations = exact new (begin c (aim_of op)) shown seen tells;
+            server = ap (λ (x : Cell). x.servers) is ∙ h.server ∙ ap (λ (x : Server). x ∷ []) (sym server);
+            told = tells;
+            wants = λ q. subst (λ (x : Cell). IsWithin x.cut (operation x q)) (sym is) (h.wants q);
+          },
+          ap (λ (x : Cell). x.entries) is,
+        )
 
 ---- its answer is taken, or it is forgotten
 
@@ -178,7 +188,7 @@ closed_told : (cut : ℕ) (o : Operation) (x : Option Answer) → o.closed ≡ t
 closed_told cut o x closed none = subst (IsToldAs cut o) (sym none) (λ free. absurd (false≢true (sym free ∙ closed)))
 
 -- what the answer was decided to be is what it came to
-taken_is : (v : FileView) (c : Cell) (t : ℕ) (a : OpenOperation) (decided y : Answer) → IsCellOf v c → operation_at v.loglet.operations t ≡ Some a → answer_at v.answers t ≡ Some decided → y ≡ told_at a.task v.loglet.cut decided → taken c.cut (operation c t) (operation c t).decided ≡ Some y
+pub taken_is : (v : FileView) (c : Cell) (t : ℕ) (a : OpenOperation) (decided y : Answer) → IsCellOf v c → operation_at v.loglet.operations t ≡ Some a → answer_at v.answers t ≡ Some decided → y ≡ told_at a.task v.loglet.cut decided → taken c.cut (operation c t) (operation c t).decided ≡ Some y
 taken_is v c t a decided y h is was told =
     let o = open_in v c t a h is in
     let k : ((operation c t).closed ≡ false) × (taken c.cut (operation c t) (operation c t).decided ≡ Some (told_at (task_of (op_of (operation c t).aim)) c.cut decided)) = subst (IsToldAs c.cut (operation c t)) was (h.told t) in
@@ -189,47 +199,42 @@ taken_is v c t a decided y h is was told =
 gives : (c : Cell) (t : ℕ) → (operation c t).closed ≡ false → take_outcome c t ≡ give c t (operation c t) (operation c t).decided
 gives c t h = rw h refl
 
-pub take_steps : (old new : FileView) → Seen new → (t : ℕ) (y : Answer) → LogletStep old.loglet (calling.Take t) (Taken (Some y)) new.loglet → IsTaken old t y new → new.server ≡ old.server → FileStep old (calling.Take t) (Taken (Some y)) new
-take_steps old new seen t y s takes server_same = record {
-  loglet = s;
-  cells = λ c h. record { steps = steps_of.Take t ∷ []; are = (told_of c h, refl); cell = by c h (operation c t).decided refl };
-}
+pub take_steps : (old new : FileView) → Seen new → (t : ℕ) (y : Answer) → TakesAnswer old.loglet t y new.loglet → IsTaken old t y new → new.server ≡ old.server → (c : Cell) → IsCellOf old c → Comes c (calling.Take t) (Taken (Some y)) new c.entries
+take_steps old new seen t y does takes server_same c h =
+    let x = by (operation c t).decided refl in
+    record { reaches = record { steps = steps_of.Take t ∷ []; are = (told_of, refl); cell = x.0 }; keeps = x.1 }
   where
-    told_of : (c : Cell) → IsCellOf old c → taken c.cut (operation c t) (operation c t).decided ≡ Some y
-    told_of c h = taken_is old c t takes.operation takes.decided y h takes.is takes.was takes.told
+    told_of : taken c.cut (operation c t) (operation c t).decided ≡ Some y
+    told_of = taken_is old c t takes.operation takes.decided y h takes.is takes.was takes.told
 
-    by : (c : Cell) → IsCellOf old c → (z : Option Outcome) → (operation c t).decided ≡ z → IsCellOf new (take_outcome c t)
-    by c h None z = absurd (none-some y (sym (ap (taken c.cut (operation c t)) z) ∙ told_of c h))
-    by c h (Some a) z =
+    by : (z : Option Outcome) → (operation c t).decided ≡ z → IsCellOf new (take_outcome c t) × ((take_outcome c t).entries ≡ c.entries)
+    by None z = absurd (none-some y (sym (ap (taken c.cut (operation c t)) z) ∙ told_of))
+    by (Some a) z =
         let o = open_in old c t takes.operation h takes.is in
         let last : Operation = record (operation c t) { given = Some (given_outcome c.cut (operation c t).aim a); closed = true } in
         let is : take_outcome c t ≡ give c t (operation c t) (Some a) = gives c t o.is_open ∙ ap (give c t (operation c t)) z in
-        let k = call_of c (steps_of.Take t) (calling.Take t) (Taken (Some y)) h.lawful h.spelled tt (rw (o.is_open, told_of c h) refl) in
-        let shown = shows_taken old.loglet new.loglet (cell_view manner c) (cell_view manner (take_outcome c t)) t y (shows_of old c h) s.does k.does in
+        let k = call_of c (steps_of.Take t) (calling.Take t) (Taken (Some y)) h.lawful h.spelled tt (rw (o.is_open, told_of) refl) in
+        let shown = shows_taken old.loglet new.loglet (cell_view manner c) (cell_view manner (take_outcome c t)) t y (shows_of old c h) does k.does in
         let tells : (q : ℕ) → IsToldAs (take_outcome c t).cut (operation (take_outcome c t) q) (answer_at new.answers q) = λ q. subst (λ (x : Cell). IsToldAs x.cut (operation x q) (answer_at new.answers q)) (sym is)
-        (told_put c.cut c.operations t last old.answers new.answers o.known h.told (closed_told c.cut last (answer_at new.answers t) refl (puts_here old.answers new.answers t None takes.puts)) (puts_other old.answers new.answers t None takes.puts) q) in
-        record {
-          lawful = step_lawful c (steps_of.Take t) h.lawful;
-          spelled = spelled_after c (steps_of.Take t) h.spelled tt;
-          shows = shown.shows;
-          operations = exact new (take_outcome c t) shown seen tells;
-          server = ap (λ (x : Cell). x.servers) is ∙ h.server ∙ ap (λ (x : Server). x ∷ []) (sym server_same);
-          told = tells;
-          wants = λ q. subst (λ (x : Cell). IsWithin x.cut (operation x q)) (sym is) (at_set (λ j (x : Operation). IsWithin c.cut x) c.operations t last no_operation h.wants (λ _. h.wants t) q);
-        }
+        (told_put c.cut c.operations t last old.answers new.answers o.known h.told (closed_told c.cut last (answer_at new.answers t) refl (puts_here old.answers new.answers t None takes.puts)) (puts_other old.answers new.answers t None takes.puts) q) in (
+          record {
+            lawful = step_lawful c (steps_of.Take t) h.lawful;
+            spelled = spelled_after c (steps_of.Take t) h.spelled tt;
+            shows = shown.shows;
+            operations = exact new (take_outcome c t) shown seen tells;
+            server = ap (λ (x : Cell). x.servers) is ∙ h.server ∙ ap (λ (x : Server). x ∷ []) (sym server_same);
+            told = tells;
+            wants = λ q. subst (λ (x : Cell). IsWithin x.cut (operation x q)) (sym is) (at_set (λ j (x : Operation). IsWithin c.cut x) c.operations t last no_operation h.wants (λ _. h.wants t) q);
+          },
+          ap (λ (x : Cell). x.entries) is,
+        )
 
-pub wait_steps : (old new : FileView) (t : ℕ) → LogletStep old.loglet (calling.Take t) (Taken None) new.loglet → Takes old t None new → new.server ≡ old.server → FileStep old (calling.Take t) (Taken None) new
-wait_steps old new t s takes server_same = record {
-  loglet = s;
-  cells = λ c h. record { steps = []; are = (undecided c h, refl); cell = same_tied old new c h does.1 takes.1 server_same };
-}
+pub wait_steps : (old new : FileView) (t : ℕ) → IsUndecidedAt old.loglet t → new.loglet ≡ old.loglet → Takes old t None new → new.server ≡ old.server → (c : Cell) → IsCellOf old c → Comes c (calling.Take t) (Taken None) new c.entries
+wait_steps old new t waits same takes server_same c h = record { reaches = record { steps = []; are = (undecided, refl); cell = same_tied old new c h same takes.1 server_same }; keeps = refl }
   where
-    does : IsUndecidedAt old.loglet t × (new.loglet ≡ old.loglet)
-    does = s.does
-
-    undecided : (c : Cell) → IsCellOf old c → taken c.cut (operation c t) (operation c t).decided ≡ None
-    undecided c h =
-        let o = open_in old c t does.0.operation h does.0.is in
+    undecided : taken c.cut (operation c t) (operation c t).decided ≡ None
+    undecided =
+        let o = open_in old c t waits.operation h waits.is in
         let k : (operation c t).closed ≡ false → (operation c t).decided ≡ None = subst (IsToldAs c.cut (operation c t)) takes.0 (h.told t) in
         ap (taken c.cut (operation c t)) (k o.is_open)
 
@@ -238,31 +243,31 @@ some_there : (x : Option OpenOperation) → is_some x ≡ true → (a : OpenOper
 some_there None h = absurd (false≢true h)
 some_there (Some a) h = (a, refl)
 
-pub forget_steps : (old new : FileView) → Seen new → (t : ℕ) → LogletStep old.loglet (calling.Forget t) Forgotten new.loglet → PutsAnswer old.answers t None new.answers → new.server ≡ old.server → FileStep old (calling.Forget t) Forgotten new
-forget_steps old new seen t s puts server_same = record {
-  loglet = s;
-  cells = λ c h. record { steps = steps_of.Forget t ∷ []; are = refl; cell = by c h };
-}
+pub forget_steps : (old new : FileView) → Seen new → (t : ℕ) → is_some (operation_at old.loglet.operations t) ≡ true → Forgets old.loglet t new.loglet → PutsAnswer old.answers t None new.answers → new.server ≡ old.server
+    → (c : Cell) → IsCellOf old c → Comes c (calling.Forget t) Forgotten new c.entries
+forget_steps old new seen t can does puts server_same c h = record { reaches = record { steps = steps_of.Forget t ∷ []; are = refl; cell = by.0 }; keeps = by.1 }
   where
-    by : (c : Cell) → IsCellOf old c → IsCellOf new (forget c t)
-    by c h =
-        let a = some_there (operation_at old.loglet.operations t) s.can in
+    by : IsCellOf new (forget c t) × ((forget c t).entries ≡ c.entries)
+    by =
+        let a = some_there (operation_at old.loglet.operations t) can in
         let o = open_in old c t a.0 h a.1 in
         let last : Operation = record (operation c t) { closed = true } in
         let is : forget c t ≡ put_operation c t last = rw o.is_open refl in
         let k = call_of c (steps_of.Forget t) (calling.Forget t) Forgotten h.lawful h.spelled tt (rw o.is_open refl) in
-        let shown = shows_forgotten old.loglet new.loglet (cell_view manner c) (cell_view manner (forget c t)) t (shows_of old c h) s.does k.does in
+        let shown = shows_forgotten old.loglet new.loglet (cell_view manner c) (cell_view manner (forget c t)) t (shows_of old c h) does k.does in
         let tells : (q : ℕ) → IsToldAs (forget c t).cut (operation (forget c t) q) (answer_at new.answers q) = λ q. subst (λ (x : Cell). IsToldAs x.cut (operation x q) (answer_at new.answers q)) (sym is)
-        (told_put c.cut c.operations t last old.answers new.answers o.known h.told (closed_told c.cut last (answer_at new.answers t) refl (puts_here old.answers new.answers t None puts)) (puts_other old.answers new.answers t None puts) q) in
-        record {
-          lawful = step_lawful c (steps_of.Forget t) h.lawful;
-          spelled = spelled_after c (steps_of.Forget t) h.spelled tt;
-          shows = shown.shows;
-          operations = exact new (forget c t) shown seen tells;
-          server = ap (λ (x : Cell). x.servers) is ∙ h.server ∙ ap (λ (x : Server). x ∷ []) (sym server_same);
-          told = tells;
-          wants = λ q. subst (λ (x : Cell). IsWithin x.cut (operation x q)) (sym is) (at_set (λ j (x : Operation). IsWithin c.cut x) c.operations t last no_operation h.wants (λ _. h.wants t) q);
-        }
+        (told_put c.cut c.operations t last old.answers new.answers o.known h.told (closed_told c.cut last (answer_at new.answers t) refl (puts_here old.answers new.answers t None puts)) (puts_other old.answers new.answers t None puts) q) in (
+          record {
+            lawful = step_lawful c (steps_of.Forget t) h.lawful;
+            spelled = spelled_after c (steps_of.Forget t) h.spelled tt;
+            shows = shown.shows;
+            operations = exact new (forget c t) shown seen tells;
+            server = ap (λ (x : Cell). x.servers) is ∙ h.server ∙ ap (λ (x : Server). x ∷ []) (sym server_same);
+            told = tells;
+            wants = λ q. subst (λ (x : Cell). IsWithin x.cut (operation x q)) (sym is) (at_set (λ j (x : Operation). IsWithin c.cut x) c.operations t last no_operation h.wants (λ _. h.wants t) q);
+          },
+          ap (λ (x : Cell). x.entries) is,
+        )
 
 ---- a server comes up again, or doesn't
 
@@ -293,38 +298,45 @@ one_fault old new c i h was seen disk refusals =
 told_same : (old new : FileView) (c : Cell) → IsCellOf old c → new.answers ≡ old.answers → (q : ℕ) → IsToldAs c.cut (operation c q) (answer_at new.answers q)
 told_same old new c h answers q = subst (λ (xs : List (ℕ × Option Answer)). IsToldAs c.cut (operation c q) (answer_at xs q)) (sym answers) (h.told q)
 
-pub restart_steps : (old new : FileView) (i word : ℕ) (up : Bool) → Seen old → Seen new → i < 1 → LogletStep old.loglet (calling.Restart i word) (Restarted up) new.loglet → Brings word (held_in old) (Ok up) (held_in new) → new.refusals ≡ old.refusals → new.answers ≡ old.answers → FileStep old (calling.Restart i word) (Restarted up) new
-restart_steps old new (suc i) word up was seen here s b refusals answers = absurd (omega (arith, here))
-restart_steps old new zero word true was seen here s (inl same) refusals answers = record {
-  loglet = s;
-  cells = λ c h. record {
-    steps = steps_of.Restart 0 true ∷ [];
-    are = (true, refl);
-    cell = tied old new c (steps_of.Restart 0 true ∷ []) c.requests c.replies c.operations c.faults h (tt, tt)
-        (restarts_up c old.server true h.server same.0 ∙ ap (λ (ss : List Server). record c { servers = ss }) (h.server ∙ ap (λ (x : Held). x.server ∷ []) (sym same.1)))
-        (moves_still old.loglet new.loglet s.does.moves) seen (same_faults old new c h was seen (ap (λ (x : Held). x.disk.faults) same.1) refusals) (told_same old new c h answers) h.wants;
-  };
-}
-restart_steps old new zero word true was seen here s (inr up) refusals answers = record {
-  loglet = s;
-  cells = λ c h. record {
-    steps = steps_of.Restart 0 up.kept ∷ [];
-    are = (up.kept, refl);
-    cell = tied old new c (steps_of.Restart 0 up.kept ∷ []) c.requests c.replies c.operations c.faults h (tt, tt)
-        (restarts_down c old.server up.kept h.server up.was ∙ ap (λ (x : Server). record c { servers = x ∷ [] }) (sym up.server))
-        (moves_still old.loglet new.loglet s.does.moves) seen (same_faults old new c h was seen up.faults refusals) (told_same old new c h answers) h.wants;
-  };
-}
-restart_steps old new zero word false was seen here s down refusals answers = record {
-  loglet = s;
-  cells = λ c h. record {
-    steps = steps_of.RestartFails 0 ∷ [];
-    are = refl;
-    cell = tied old new c (steps_of.RestartFails 0 ∷ []) c.requests c.replies c.operations (c.faults ++ 0 ∷ []) h (tt, tt)
-        (restarts_not c old.server h.server down.was ∙ ap (λ (ss : List Server). record c { servers = ss; faults = c.faults ++ 0 ∷ [] }) (h.server ∙ ap (λ (x : Server). x ∷ []) (sym down.server)))
-        (moves_still old.loglet new.loglet s.does.moves) seen (one_fault old new c 0 h was seen down.faults refusals) (told_same old new c h answers) h.wants;
-  };
-}
+pub restart_steps : (old new : FileView) (i word : ℕ) (up : Bool) → Seen old → Seen new → i < 1 → Moves old.loglet new.loglet → Brings word (held_in old) (Ok up) (held_in new) → new.refusals ≡ old.refusals → new.answers ≡ old.answers
+    → (c : Cell) → IsCellOf old c → Comes c (calling.Restart i word) (Restarted up) new c.entries
+restart_steps old new (suc i) word up was seen here moves b refusals answers c h = absurd (omega (arith, here))
+restart_steps old new zero word true was seen here moves (inl same) refusals answers c h =
+    let is = restarts_up c old.server true h.server same.0 in
+    record {
+      reaches = record {
+        steps = steps_of.Restart 0 true ∷ [];
+        are = (true, refl);
+        cell = tied old new c (steps_of.Restart 0 true ∷ []) c.requests c.replies c.operations c.faults h (tt, tt)
+            (is ∙ ap (λ (ss : List Server). record c { servers = ss }) (h.server ∙ ap (λ (x : Held). x.server ∷ []) (sym same.1)))
+            (moves_still old.loglet new.loglet moves) seen (same_faults old new c h was seen (ap (λ (x : Held). x.disk.faults) same.1) refusals) (told_same old new c h answers) h.wants;
+      };
+      keeps = ap (λ (x : Cell). x.entries) is;
+    }
+restart_steps old new zero word true was seen here moves (inr up) refusals answers c h =
+    let is = restarts_down c old.server up.kept h.server up.was in
+    record {
+      reaches = record {
+        steps = steps_of.Restart 0 up.kept ∷ [];
+        are = (up.kept, refl);
+        cell = tied old new c (steps_of.Restart 0 up.kept ∷ []) c.requests c.replies c.operations c.faults h (tt, tt)
+            (is ∙ ap (λ (x : Server). record c { servers = x ∷ [] }) (sym up.server))
+            (moves_still old.loglet new.loglet moves) seen (same_faults old new c h was seen up.faults refusals) (told_same old new c h answers) h.wants;
+      };
+      keeps = ap (λ (x : Cell). x.entries) is;
+    }
+restart_steps old new zero word false was seen here moves down refusals answers c h =
+    let is = restarts_not c old.server h.server down.was in
+    record {
+      reaches = record {
+        steps = steps_of.RestartFails 0 ∷ [];
+        are = refl;
+        cell = tied old new c (steps_of.RestartFails 0 ∷ []) c.requests c.replies c.operations (c.faults ++ 0 ∷ []) h (tt, tt)
+            (is ∙ ap (λ (ss : List Server). record c { servers = ss; faults = c.faults ++ 0 ∷ [] }) (h.server ∙ ap (λ (x : Server). x ∷ []) (sym down.server)))
+            (moves_still old.loglet new.loglet moves) seen (one_fault old new c 0 h was seen down.faults refusals) (told_same old new c h answers) h.wants;
+      };
+      keeps = ap (λ (x : Cell). x.entries) is;
+    }
 
 ---- an operation is carried
 
@@ -372,18 +384,11 @@ known_of v c t new requests replies heard fs steps h strays lt is = record {
   found = λ p any. found p any;
 }
   where
-    at_one : (i : ℕ) → server c i ≡ get_or (v.server ∷ []) i no_server
-    at_one i = ap (λ (ss : List Server). get_or ss i no_server) h.server
-
     here : ServerHolds c v.server
-    here = subst (ServerHolds c) (at_one 0) (h.lawful.law.quorum.servers 0)
-
-    firm_held : nat_le c.firm (length_of v.server) ≡ true
-    firm_held = sym (one_majority (λ i. nat_le c.firm (length_of (get_or (v.server ∷ []) i no_server))))
-        ∙ sym (ap (λ (ss : List Server). is_majority (length ss) (λ i. nat_le c.firm (length_of (get_or ss i no_server)))) h.server) ∙ h.lawful.law.quorum.firm
+    here = server_holds v c h
 
     long : (operation c t).firm_before ≤ length_of v.server
-    long = (let le : c.firm ≤ length_of v.server = leb-true c.firm (length_of v.server) firm_held in let before : (operation c t).firm_before ≤ c.firm = (h.lawful.law.quorum.operations t).firm in omega (arith, le, before))
+    long = (let le = firm_within v c h in let before : (operation c t).firm_before ≤ c.firm = (h.lawful.law.quorum.operations t).firm in omega (arith, le, before))
 
     found : (p : ℕ) → list_any (gives_entry p) ((operation c t).heard ++ heard) ≡ true → (e : Entry) × (entry_heard p ((operation c t).heard ++ heard) ≡ Some e) × (slice_get c.entries p ≡ Some e)
     found p any =
@@ -412,7 +417,7 @@ has_asked v c t new fs h x = record {
 
 -- it asked, and came to something
 ends_so : (old new : FileView) (c : Cell) (t word : ℕ) (fs : List ℕ) (answer : Answer) → IsCellOf old c → (x : AskedFirst c t old.server new.server fs) → (d : Decides c.cut (heard_too (operation c t) x.asks.heard) (operation c t).aim answer) → t < length c.operations → waits (operation c t) ≡ true → (operation c t).closed ≡ false
-    → Still old.loglet new.loglet → Seen new → cell_counted (length (c.faults ++ fs)) ≡ new.loglet.faults → PutsAnswer old.answers t (Some answer) new.answers → Reaches c (calling.Carry t word) Carried new
+    → Still old.loglet new.loglet → Seen new → cell_counted (length (c.faults ++ fs)) ≡ new.loglet.faults → PutsAnswer old.answers t (Some answer) new.answers → Comes c (calling.Carry t word) Carried new c.entries
 ends_so old new c t word fs answer h x d lt free open_ still seen faults puts =
     let o : Operation = outcome_put (operation c t) x.asks.heard d.outcome in
     let steps : List CellStep = x.asks.steps ++ steps_of.Decide t d.outcome ∷ [] in
@@ -421,27 +426,33 @@ ends_so old new c t word fs answer h x d lt free open_ still seen faults puts =
     ∙ decides_here c t new.server x.asks.requests x.asks.replies x.asks.heard fs d.outcome lt free d.may in
     let told : IsToldAs c.cut o (answer_at new.answers t) = subst (IsToldAs c.cut o) (sym (puts_here old.answers new.answers t (Some answer) puts)) (open_, d.told) in
     record {
-      steps = steps;
-      are = record { asking = x.asks.steps; asks = has_asked old c t new.server fs h x; outcome = d.outcome; are = refl };
-      cell = tied old new c steps (c.requests ++ x.asks.requests) (c.replies ++ x.asks.replies) (set c.operations t o) (c.faults ++ fs) h
-          (strays_both x.asks.steps (steps_of.Decide t d.outcome ∷ []) (asking_strays t (length c.requests) (length c.replies) x.asks.wishes x.asks.steps x.asks.asking) (tt, tt)) is still seen faults
-          (told_put c.cut c.operations t o old.answers new.answers lt h.told told (puts_other old.answers new.answers t (Some answer) puts))
-          (at_set (λ j (y : Operation). IsWithin c.cut y) c.operations t o no_operation h.wants (λ _. h.wants t));
+      keeps = ap (λ (y : Cell). y.entries) is;
+      reaches = record {
+        steps = steps;
+        are = record { asking = x.asks.steps; asks = has_asked old c t new.server fs h x; outcome = d.outcome; are = refl };
+        cell = tied old new c steps (c.requests ++ x.asks.requests) (c.replies ++ x.asks.replies) (set c.operations t o) (c.faults ++ fs) h
+            (strays_both x.asks.steps (steps_of.Decide t d.outcome ∷ []) (asking_strays t (length c.requests) (length c.replies) x.asks.wishes x.asks.steps x.asks.asking) (tt, tt)) is still seen faults
+            (told_put c.cut c.operations t o old.answers new.answers lt h.told told (puts_other old.answers new.answers t (Some answer) puts))
+            (at_set (λ j (y : Operation). IsWithin c.cut y) c.operations t o no_operation h.wants (λ _. h.wants t));
+      };
     }
 
 -- it asked, and came to nothing
 waits_so : (old new : FileView) (c : Cell) (t word : ℕ) (fs : List ℕ) → IsCellOf old c → (x : AskedFirst c t old.server new.server fs) → t < length c.operations → (operation c t).decided ≡ None → answer_at old.answers t ≡ None → Still old.loglet new.loglet → Seen new → cell_counted (length (c.faults ++ fs)) ≡ new.loglet.faults
-    → new.answers ≡ old.answers → Reaches c (calling.Carry t word) (Refusal Memory) new
+    → new.answers ≡ old.answers → Comes c (calling.Carry t word) (Refusal Memory) new c.entries
 waits_so old new c t word fs h x lt undecided unanswered still seen faults answers =
     let o : Operation = heard_too (operation c t) x.asks.heard in
     let none : answer_at new.answers t ≡ None = ap (λ (xs : List (ℕ × Option Answer)). answer_at xs t) answers ∙ unanswered in
     record {
-      steps = x.asks.steps;
-      are = has_asked old c t new.server fs h x;
-      cell = tied old new c x.asks.steps (c.requests ++ x.asks.requests) (c.replies ++ x.asks.replies) (set c.operations t o) (c.faults ++ fs) h
-          (asking_strays t (length c.requests) (length c.replies) x.asks.wishes x.asks.steps x.asks.asking) x.asks.cell still seen faults
-          (told_put c.cut c.operations t o old.answers new.answers lt h.told (subst (IsToldAs c.cut o) (sym none) (λ z. undecided)) (λ q n. ap (λ (xs : List (ℕ × Option Answer)). answer_at xs q) answers))
-          (at_set (λ j (y : Operation). IsWithin c.cut y) c.operations t o no_operation h.wants (λ _. h.wants t));
+      keeps = ap (λ (y : Cell). y.entries) x.asks.cell;
+      reaches = record {
+        steps = x.asks.steps;
+        are = has_asked old c t new.server fs h x;
+        cell = tied old new c x.asks.steps (c.requests ++ x.asks.requests) (c.replies ++ x.asks.replies) (set c.operations t o) (c.faults ++ fs) h
+            (asking_strays t (length c.requests) (length c.replies) x.asks.wishes x.asks.steps x.asks.asking) x.asks.cell still seen faults
+            (told_put c.cut c.operations t o old.answers new.answers lt h.told (subst (IsToldAs c.cut o) (sym none) (λ z. undecided)) (λ q n. ap (λ (xs : List (ℕ × Option Answer)). answer_at xs q) answers))
+            (at_set (λ j (y : Operation). IsWithin c.cut y) c.operations t o no_operation h.wants (λ _. h.wants t));
+      };
     }
 
 ---- faults of a carry
@@ -491,8 +502,7 @@ waits_in v c t a h is none =
     let k : (operation c t).closed ≡ false → (operation c t).decided ≡ None = subst (IsToldAs c.cut (operation c t)) none (h.told t) in
     let undecided = k o.is_open in
     let law = h.lawful.law.quorum in
-    let firm : c.firm ≤ length_of v.server = leb-true c.firm (length_of v.server) (sym (one_majority (λ i. nat_le c.firm (length_of (get_or (v.server ∷ []) i no_server))))
-    ∙ sym (ap (λ (ss : List Server). is_majority (length ss) (λ i. nat_le c.firm (length_of (get_or ss i no_server)))) h.server) ∙ law.firm) in
+    let firm = firm_within v c h in
     record {
       open_ = o;
       undecided = undecided;
@@ -516,15 +526,10 @@ asks_same v c t a w =
 none_asked : (v new : FileView) (c : Cell) (t : ℕ) → IsCellOf v c → new.server ≡ v.server → AskedFirst c t v.server new.server []
 none_asked v new c t h same = subst (λ (s : Server). AskedFirst c t v.server s []) (sym same) (record { asked = []; rest = asks_in c t v.server; are = refl; asks = asks_none c t v.server h.server })
 
-pub stuck_steps : {U E : Type 0} (old new : FileView) (t word : ℕ) (e : E) → Seen old → Seen new → LogletStep old.loglet (calling.Carry t word) (Refusal Memory) new.loglet → answer_at old.answers t ≡ None → new.answers ≡ old.answers → IsCarried {U = U} {E = E} old t (Err e) new → FileStep old (calling.Carry t word) (Refusal Memory) new
-stuck_steps old new t word e was seen s none answers carried = record {
-  loglet = s;
-  cells = λ c h. reaches c h (waits_in old c t carried.operation h carried.is none);
-}
+pub stuck_steps : {U E : Type 0} (old new : FileView) (t word : ℕ) (e : E) → Seen old → Seen new → new.loglet ≡ old.loglet → answer_at old.answers t ≡ None → new.answers ≡ old.answers → IsCarried {U = U} {E = E} old t (Err e) new
+    → (c : Cell) → IsCellOf old c → Comes c (calling.Carry t word) (Refusal Memory) new c.entries
+stuck_steps old new t word e was seen same none answers carried c h = reaches c h (waits_in old c t carried.operation h carried.is none)
   where
-    same : new.loglet ≡ old.loglet
-    same = s.does
-
     same_up : (x y : Bool) → down_of x ≡ down_of y → x ≡ y
     same_up true true k = refl
     same_up false false k = refl
@@ -540,10 +545,10 @@ stuck_steps old new t word e was seen s none answers carried = record {
     still : Still old.loglet new.loglet
     still = still_same old.loglet new.loglet same
 
-    idle : (c : Cell) → IsCellOf old c → WaitsIn old c t carried.operation → new.server ≡ old.server → Reaches c (calling.Carry t word) (Refusal Memory) new
+    idle : (c : Cell) → IsCellOf old c → WaitsIn old c t carried.operation → new.server ≡ old.server → Comes c (calling.Carry t word) (Refusal Memory) new c.entries
     idle c h w alike = waits_so old new c t word [] h (none_asked old new c t h alike) w.open_.known w.undecided none still seen (faults c h) answers
 
-    reaches : (c : Cell) → IsCellOf old c → WaitsIn old c t carried.operation → Reaches c (calling.Carry t word) (Refusal Memory) new
+    reaches : (c : Cell) → IsCellOf old c → WaitsIn old c t carried.operation → Comes c (calling.Carry t word) (Refusal Memory) new c.entries
     reaches c h w = by (unspoken_or (operation c t).aim (operation c t).firm_before) (cases_Bool old.server.up)
       where
         unspoken : IsUnspoken (task_for (operation c t).aim) (operation c t).firm_before → IsUnspoken carried.operation.task carried.operation.firm
@@ -552,7 +557,7 @@ stuck_steps old new t word e was seen s none answers carried = record {
         spoken : (IsUnspoken (task_for (operation c t).aim) (operation c t).firm_before → ⊥) → IsUnspoken carried.operation.task carried.operation.firm → ⊥
         spoken n u = n (subst (IsUnspoken (task_for (operation c t).aim)) w.firm (subst (λ (x : Task). IsUnspoken x carried.operation.firm) w.task u))
 
-        by : (IsUnspoken (task_for (operation c t).aim) (operation c t).firm_before ⊎ (IsUnspoken (task_for (operation c t).aim) (operation c t).firm_before → ⊥)) → ((old.server.up ≡ true) ⊎ (old.server.up ≡ false)) → Reaches c (calling.Carry t word) (Refusal Memory) new
+        by : (IsUnspoken (task_for (operation c t).aim) (operation c t).firm_before ⊎ (IsUnspoken (task_for (operation c t).aim) (operation c t).firm_before → ⊥)) → ((old.server.up ≡ true) ⊎ (old.server.up ≡ false)) → Comes c (calling.Carry t word) (Refusal Memory) new c.entries
         by (inl u) b = idle c h w (ap (λ (x : Held). x.server) (carried.unasked (unspoken u)))
         by (inr n) (inr down) = idle c h w (ap (λ (x : Held). x.server) (carried.idle down))
         by (inr n) (inl on) =
@@ -561,22 +566,20 @@ stuck_steps old new t word e was seen s none answers carried = record {
             let none_failed : (if new.server.up then [] else 0 ∷ []) ≡ [] = ap (λ (b : Bool). if b then [] else 0 ∷ []) (up ∙ on) in
             waits_so old new c t word [] h (subst (λ (fs : List ℕ). AskedFirst c t old.server new.server fs) none_failed x) w.open_.known w.undecided none still seen (faults c h) answers
 
-pub carry_steps : {U E : Type 0} (old new : FileView) (t word : ℕ) (done : U) → Seen old → Seen new → LogletStep old.loglet (calling.Carry t word) Carried new.loglet → IsDecidedAtOnce old.loglet t new.loglet → IsAnswered old t new → IsCarried {U = U} {E = E} old t (Ok done) new → FileStep old (calling.Carry t word) Carried new
-carry_steps old new t word done was seen s at_once answered carried = record {
-  loglet = s;
-  cells = λ c h. reaches c h (waits_in old c t answered.operation h answered.is answered.was);
-}
+pub carry_steps : {U E : Type 0} (old new : FileView) (t word : ℕ) (done : U) → Seen old → Seen new → Moves old.loglet new.loglet → IsDecidedAtOnce old.loglet t new.loglet → IsAnswered old t new → IsCarried {U = U} {E = E} old t (Ok done) new
+    → (c : Cell) → IsCellOf old c → Comes c (calling.Carry t word) Carried new c.entries
+carry_steps old new t word done was seen moves at_once answered carried c h = reaches c h (waits_in old c t answered.operation h answered.is answered.was)
   where
     one : carried.operation ≡ answered.operation
     one = same_Some _ _ (sym carried.is ∙ answered.is)
 
     still : Still old.loglet new.loglet
-    still = moves_still old.loglet new.loglet s.does.moves
+    still = moves_still old.loglet new.loglet moves
 
-    reaches : (c : Cell) → IsCellOf old c → WaitsIn old c t answered.operation → Reaches c (calling.Carry t word) Carried new
+    reaches : (c : Cell) → IsCellOf old c → WaitsIn old c t answered.operation → Comes c (calling.Carry t word) Carried new c.entries
     reaches c h w = by (unspoken_or (operation c t).aim (operation c t).firm_before) (cases_Bool old.server.up)
       where
-        ends : (fs : List ℕ) (answer : Answer) → answered.answer ≡ answer → (x : AskedFirst c t old.server new.server fs) → Decides c.cut (heard_too (operation c t) x.asks.heard) (operation c t).aim answer → cell_counted (length (c.faults ++ fs)) ≡ new.loglet.faults → Reaches c (calling.Carry t word) Carried new
+        ends : (fs : List ℕ) (answer : Answer) → answered.answer ≡ answer → (x : AskedFirst c t old.server new.server fs) → Decides c.cut (heard_too (operation c t) x.asks.heard) (operation c t).aim answer → cell_counted (length (c.faults ++ fs)) ≡ new.loglet.faults → Comes c (calling.Carry t word) Carried new c.entries
         ends fs answer e x d faults = ends_so old new c t word fs answer h x d w.open_.known w.free w.open_.is_open still seen faults (subst (λ (y : Answer). PutsAnswer old.answers t (Some y) new.answers) e answered.puts)
 
         unspoken : IsUnspoken (task_for (operation c t).aim) (operation c t).firm_before → IsUnspoken answered.operation.task answered.operation.firm
@@ -585,7 +588,7 @@ carry_steps old new t word done was seen s at_once answered carried = record {
         spoken : (IsUnspoken (task_for (operation c t).aim) (operation c t).firm_before → ⊥) → IsUnspoken answered.operation.task answered.operation.firm → ⊥
         spoken n u = n (subst (IsUnspoken (task_for (operation c t).aim)) w.firm (subst (λ (x : Task). IsUnspoken x answered.operation.firm) w.task u))
 
-        by : (IsUnspoken (task_for (operation c t).aim) (operation c t).firm_before ⊎ (IsUnspoken (task_for (operation c t).aim) (operation c t).firm_before → ⊥)) → ((old.server.up ≡ true) ⊎ (old.server.up ≡ false)) → Reaches c (calling.Carry t word) Carried new
+        by : (IsUnspoken (task_for (operation c t).aim) (operation c t).firm_before ⊎ (IsUnspoken (task_for (operation c t).aim) (operation c t).firm_before → ⊥)) → ((old.server.up ≡ true) ⊎ (old.server.up ≡ false)) → Comes c (calling.Carry t word) Carried new c.entries
         by (inl u) b =
             let past = unspoken u in
             let alike : new.server ≡ old.server = ap (λ (x : Held). x.server) (carried.unasked (subst (λ (x : OpenOperation). IsUnspoken x.task x.firm) (sym one) past)) in
@@ -623,7 +626,7 @@ carry_steps old new t word done was seen s at_once answered carried = record {
                 let same : new.server ≡ old.server = subst (λ (xs : List Ask). Follows old.server xs new.server) none all_of in
                 false≢true (sym down ∙ ap (λ (y : Server). y.up) same ∙ on)
 
-            at_end : ((new.server.up ≡ true) ⊎ (new.server.up ≡ false)) → Reaches c (calling.Carry t word) Carried new
+            at_end : ((new.server.up ≡ true) ⊎ (new.server.up ≡ false)) → Comes c (calling.Carry t word) Carried new c.entries
             at_end (inl up) =
                 let x = asked_with [] (ap (λ (b : Bool). if b then [] else 0 ∷ []) up) in
                 let a : Asked c t old.server new.server (asks_in c t old.server) [] = x.asks in

@@ -37,7 +37,7 @@ got_at [] i x lt e = absurd (omega arith)
 got_at (y ∷ ys) zero x lt e = ap Some (sym e)
 got_at (y ∷ ys) (suc i) x lt e = got_at ys i x (omega arith) e
 
-within_get : (xs : List Entry) (i : ℕ) (x : Entry) → slice_get xs i ≡ Some x → i < length xs
+pub within_get : (xs : List Entry) (i : ℕ) (x : Entry) → slice_get xs i ≡ Some x → i < length xs
 within_get [] i x e = absurd (cc)
 within_get (y ∷ ys) zero x e = omega arith
 within_get (y ∷ ys) (suc i) x e = let rest = within_get ys i x e in omega arith
@@ -81,7 +81,7 @@ store_later entries cut sealing old new e (Ok u) unsealed here w = subst (λ (s 
 store_later entries cut sealing old new e (Err Disk) unsealed here w = subst (λ (s : Server). IsLater entries cut sealing old.server s) (sym w.0) (torn_later entries cut sealing false old.server (Store (length_of old.server) e) here)
 store_later entries cut sealing old new e (Err Memory) unsealed here w = subst (λ (s : Server). IsLater entries cut sealing old.server s) (sym w.0) (later_same entries cut sealing old.server)
 
-slice_get-drop : {X : Type 0} (n : ℕ) (xs : List X) (i : ℕ) → slice_get (drop n xs) i ≡ slice_get xs (n + i)
+pub slice_get-drop : {X : Type 0} (n : ℕ) (xs : List X) (i : ℕ) → slice_get (drop n xs) i ≡ slice_get xs (n + i)
 slice_get-drop zero xs i = rw zero-add refl
 slice_get-drop (suc n) [] i = refl
 slice_get-drop (suc n) (x ∷ xs) i = let e : suc n + i ≡ suc (n + i) = omega arith in rw e (slice_get-drop n xs i)

@@ -7,8 +7,6 @@ mod Deciding
 mod Ties
 mod Carrying
 mod Maps
-mod Sound
-mod Told
 mod Steps
 mod Wholes
 mod Serving

@@ -17,8 +17,7 @@ use Rattle.file_loglet.specs.declared.marks.Marks.{Marks}
 use Rattle.file_loglet.specs.declared.pending.Pending.{Pending}
 use Rattle.file_loglet.specs.Held.{Held}
 use Rattle.file_loglet.specs.Pending.{PendingMap, shown, shown_answer, answer_at}
-use Rattle.file_loglet.specs.State.{counted, down_of, state_of, loglet_of}
-use Rattle.file_loglet.specs.File.{FileView, file_view}
+use Rattle.file_loglet.specs.File.{FileView, file_view, counted, down_of, loglet_of}
 use Rattle.file_loglet.specs.Steps.{start_at, manner, IsToldAs, IsCellOf}
 
 ---- its first cell is lawful
@@ -73,7 +72,7 @@ start_lawful_at room faults least most =
 abbrev new_marks : Marks
 new_marks = record { cut = 0; reach = 0; firm = 0; cap = None; begun = 0; seals = 0; lacks = 0; refusals = 0; asked = record { told = 0; carries = 0; strays = 0; stops = 0; restarts = 0 } }
 
-started : (room faults : ℕ) (held : Held) (m : PendingMap) → held.server ≡ empty_server → held.disk.faults ≡ faults → loglet_of (state_of room [] held new_marks m) ≡ record (cell_view manner (start_at room faults)) { operations = map shown m.entries }
+started : (room faults : ℕ) (held : Held) (m : PendingMap) → held.server ≡ empty_server → held.disk.faults ≡ faults → loglet_of room [] held new_marks m ≡ record (cell_view manner (start_at room faults)) { operations = map shown m.entries }
 started room faults held m server count =
     let all : counted held.disk.faults 0 ≡ cell_counted (length (replicate faults 1)) = omega (arith, count, length-replicate {A = ℕ} faults 1) in
     λ i. record (cell_view manner (start_at room faults)) { operations = map shown m.entries; shut = is_sealed (server i); faults = all i; down = down_of (server i).up }

@@ -1,7 +1,7 @@
 -- A file loglet beside a cell that it may be.
 use Rattle.std.proofs.Common.{◌≡◌, ℕ, ◌<◌, ◌≤◌, Bool, true, false, set, get_or, refl, sym, ◌∙◌, ap, subst, arith, List, [], ◌∷◌, length, Option, Some, None, inl, inr}
-use Rattle.std.specs.Prelude.{◌⊎◌, not, nat_lt, if◌then◌else◌}
-use Rattle.std.proofs.lemmas.Bool.{false≢true, cases_eq, cases_Bool, ne_eqb, eq-eqb, eqb-true}
+use Rattle.std.specs.Prelude.{◌⊎◌, not, nat_lt, nat_le, if◌then◌else◌}
+use Rattle.std.proofs.lemmas.Bool.{false≢true, cases_eq, cases_Bool, ne_eqb, eq-eqb, eqb-true, leb-true}
 use Rattle.std.proofs.lemmas.Bool.Decides.{nat_tests}
 use Rattle.std.proofs.lemmas.Option.{none-some, same_Some}
 use Rattle.std.proofs.lemmas.List.{get_or-set_same, get_or-set_other}
@@ -20,11 +20,11 @@ use Rattle.quorum_cell.specs.declared.operation.Aim.TheVariants as aims
 use Rattle.quorum_cell.specs.declared.operation.Outcome.{Outcome}
 use Rattle.quorum_cell.specs.declared.operation.Outcome.TheVariants.{Reached, OpenTail, SealedTail, Shut, Found, Gone, Beyond, TrimDone, NoQuorum}
 use Rattle.quorum_cell.specs.declared.operation.CellStep.{CellStep}
-use Rattle.quorum_cell.specs.Servers.{Server, is_sealed}
+use Rattle.quorum_cell.specs.Servers.{Server, length_of, is_sealed}
 use Rattle.quorum_cell.specs.Cells.{Cell, Operation, operation, no_operation, no_server, is_shut, down}
 use Rattle.quorum_cell.specs.Steps.{cell_step, run_cell, given_outcome}
 use Rattle.quorum_cell.specs.Tallies.{may_decide}
-use Rattle.quorum_cell.specs.Law.{IsLawful}
+use Rattle.quorum_cell.specs.Law.{IsLawful, ServerHolds}
 use Rattle.cell_views.specs.Views.{IsManner, IsSpelled, BringsSpelled, counted as cell_counted, cell_view, calls, left_of as cell_left, op_of, operation_view, taken, answer_of}
 use Rattle.cell_views.proofs.Calls.{step_runs}
 use Rattle.cell_views.proofs.Opened.{opened, opened_is}
@@ -32,8 +32,7 @@ use Rattle.cell_views.proofs.Sounds.{open_known}
 use Rattle.file_loglet.specs.Held.{Held}
 use Rattle.file_loglet.specs.declared.marks.Marks.{Marks}
 use Rattle.file_loglet.specs.Pending.{PendingMap, left_of, answer_at, PutsAnswer, told_at}
-use Rattle.file_loglet.specs.State.{counted, down_of}
-use Rattle.file_loglet.specs.File.{FileView, file_view}
+use Rattle.file_loglet.specs.File.{FileView, file_view, counted, down_of}
 use Rattle.file_loglet.specs.Steps.{manner, IsToldAs, IsWithin, IsCellOf}
 use Rattle.file_loglet.proofs.Maps.{behind, answer_shown, answer_in}
 use Rattle.file_loglet.proofs.Stills.{IsAlike, alike_same, Still, Shows, AreStrays, shows_still, run_still, run_lawful, run_spelled, there_alike}
@@ -107,6 +106,15 @@ down_one c s e = ap (λ (ss : List Server). votes_below (length ss) (λ i. not (
     by : (b : Bool) → s.up ≡ b → votes_below 1 (λ i. not (get_or (s ∷ []) i no_server).up) ≡ down_of b
     by true u = one_down false (λ i. not (get_or (s ∷ []) i no_server).up) (ap not u)
     by false u = one_down true (λ i. not (get_or (s ∷ []) i no_server).up) (ap not u)
+
+---- what its law says
+
+pub server_holds : (v : FileView) (c : Cell) → IsCellOf v c → ServerHolds c v.server
+server_holds v c h = subst (ServerHolds c) (ap (λ (ss : List Server). get_or ss 0 no_server) h.server) (h.lawful.law.quorum.servers 0)
+
+pub firm_within : (v : FileView) (c : Cell) → IsCellOf v c → c.firm ≤ length_of v.server
+firm_within v c h = leb-true c.firm (length_of v.server) (sym (one_majority (λ i. nat_le c.firm (length_of (get_or (v.server ∷ []) i no_server))))
+    ∙ sym (ap (λ (ss : List Server). is_majority (length ss) (λ i. nat_le c.firm (length_of (get_or ss i no_server)))) h.server) ∙ h.lawful.law.quorum.firm)
 
 ---- nothing is shown of what a call did
 

@@ -1,10 +1,11 @@
 -- What a file loglet shows, and what holds of it.
-use Rattle.std.specs.Prelude.{◌≡◌, ℕ, ◌-◌, ◌≤◌, ◌⊎◌, if◌then◌else◌, Bool, true, false, Option, Some, None, List, [], ◌∷◌, map, slice_get, Result, Ok, Err}
+use Rattle.std.specs.Prelude.{◌≡◌, ℕ, ◌+◌, ◌-◌, ◌^◌, ◌≤◌, ◌⊎◌, min, if◌then◌else◌, Bool, true, false, Option, Some, None, List, [], ◌∷◌, map, drop, slice_get, Result, Ok, Err}
 use Rattle.delos_types.specs.declared.entry.Entry.{Entry}
 use Rattle.disk_model.specs.Disk.{DiskView}
 use Rattle.journal_core.specs.Journal.{LeavesRecords}
 use Rattle.loglet_api.specs.declared.call.Answer.{Answer}
 use Rattle.loglet_api.specs.declared.call.Answer.TheVariants.{Beyond, NoQuorum}
+use Rattle.loglet_api.specs.declared.call.Kind.TheVariants.{File}
 use Rattle.loglet_api.specs.declared.call.Refused.{Refused}
 use Rattle.loglet_api.specs.declared.call.Refused.TheVariants.{Full}
 use Rattle.loglet_api.specs.View.{LogletView, Operation, operation_at, IsDecided}
@@ -15,9 +16,38 @@ use Rattle.server_records.specs.Spelled.{server_of}
 use Rattle.file_loglet.specs.declared.marks.Asked.{Asked}
 use Rattle.file_loglet.specs.declared.marks.Marks.{Marks}
 use Rattle.file_loglet.specs.Held.{Held}
-use Rattle.file_loglet.specs.Pending.{PendingMap, IsUnspoken, shown_answer, answer_at, PutsAnswer, Answers, told_at}
+use Rattle.file_loglet.specs.Pending.{PendingMap, IsUnspoken, shown, shown_answer, answer_at, PutsAnswer, Answers, told_at}
 use Rattle.file_loglet.specs.Asking.{asks, Obeys}
-use Rattle.file_loglet.specs.State.{counted, down_of, state_of, loglet_of}
+
+-- the faults of a disk and the refusals, in a word of 64 bits that stands still at its end
+abbrev pub counted : ℕ → ℕ → ℕ
+counted faults refusals = min (faults + refusals) (2 ^ 64 - 1)
+
+abbrev pub down_of : Bool → ℕ
+down_of up = if up then 0 else 1
+
+-- what every loglet shows
+abbrev pub loglet_of : ℕ → List Entry → Held → Marks → PendingMap → LogletView
+loglet_of room entries held marks pending = record {
+  kind = File;
+  servers = 1;
+  quorum = 1;
+  room = room;
+  rounds = 1;
+  limit = 2 ^ 62;
+  cut = marks.cut;
+  log = drop marks.cut entries;
+  reach = marks.reach;
+  cap = marks.cap;
+  firm = marks.firm;
+  shut = is_sealed held.server;
+  operations = map shown pending.entries;
+  faults = counted held.disk.faults marks.refusals;
+  down = down_of held.server.up;
+  begun = marks.begun;
+  seals = marks.seals;
+  lacks = marks.lacks;
+}
 
 -- A file loglet: what every loglet shows, what its open operations were answered, by ticket, its server, its disk, how many
 -- operations it refused as full, and what was asked of its server.
@@ -31,7 +61,7 @@ pub record FileView : Type 0 where
 
 abbrev pub file_view : ℕ → List Entry → Held → Marks → PendingMap → FileView
 file_view room entries held marks pending =
-    record { loglet = loglet_of (state_of room entries held marks pending); answers = map shown_answer pending.entries; server = held.server; disk = held.disk; refusals = marks.refusals; asked = marks.asked }
+    record { loglet = loglet_of room entries held marks pending; answers = map shown_answer pending.entries; server = held.server; disk = held.disk; refusals = marks.refusals; asked = marks.asked }
 
 abbrev pub held_in : FileView → Held
 held_in v = record { server = v.server; disk = v.disk }

@@ -1,12 +1,12 @@
 -- What a file loglet keeps of its open operations.
-use Rattle.std.specs.Prelude.{◌≡◌, ℕ, ◌+◌, ◌-◌, ◌<◌, ◌≤◌, nat_eq, nat_lt, if◌then◌else◌, min, Bool, true, false, Option, None, Some, unwrap_or, List, slice_get}
+use Rattle.std.specs.Prelude.{◌≡◌, ℕ, ◌+◌, ◌-◌, ◌<◌, ◌≤◌, nat_eq, nat_lt, if◌then◌else◌, min, true, false, Option, None, Some, unwrap_or, List, slice_get}
 use Rattle.std.specs.HashMap.{HashMap, get, Updates, hash_map_len}
 use Rattle.std.specs.Map.{lookup}
 use Rattle.std.specs.declared.hash.FoldHasher.{FoldHasher}
 use Rattle.std.specs.declared.hash.BuildHasherDefault.{BuildHasherDefault}
 use Rattle.delos_types.specs.declared.entry.Entry.{Entry}
 use Rattle.loglet_api.specs.declared.call.Answer.{Answer}
-use Rattle.loglet_api.specs.declared.call.Answer.TheVariants.{Placed, Settled, OpenTail, SealedTail, SealDone, Got, CutAt, Beyond, TrimDone, Sealed, NoQuorum}
+use Rattle.loglet_api.specs.declared.call.Answer.TheVariants.{Placed, Settled, OpenTail, SealedTail, SealDone, Got, CutAt, TrimDone, Sealed}
 use Rattle.loglet_api.specs.declared.call.Task.{Task}
 use Rattle.loglet_api.specs.declared.call.Task.TheVariants.{Placing, Settling, Finding, Sealing, Reading, Trimming}
 use Rattle.loglet_api.specs.View.{Operation}
@@ -56,23 +56,6 @@ Answers log cut s o Sealing SealDone = is_sealed s ≡ true
 Answers log cut s o (Reading q) (Got e) = cut ≤ q → slice_get log (q - cut) ≡ Some e
 Answers log cut s o (Trimming n) TrimDone = cut ≤ s.base
 Answers log cut s o task answer = ⊥
-
--- The answer fits what the server stores, and goes on to fit: what is stored grows until the seal
--- and stays from then on. `lack` says why the server may have been out of reach.
-abbrev pub Fits : List Entry → ℕ → Bool → Type 0 → Pending → Task → Answer → Type 0
-Fits entries stored sealed lack p Placing (Placed q) = (q ≡ p.size) × (p.shut ≡ false) × (p.size < stored)
-Fits entries stored sealed lack p Placing Sealed = sealed ≡ true
-Fits entries stored sealed lack p (Settling n) Settled = (p.shut ≡ false) × (min n p.size ≤ stored)
-Fits entries stored sealed lack p (Settling n) Sealed = sealed ≡ true
-Fits entries stored sealed lack p Finding (OpenTail t) = (p.reach ≤ t) × (p.shut ≡ false) × (t ≤ stored)
-Fits entries stored sealed lack p Finding (SealedTail t) = (sealed ≡ true) × (t ≡ stored)
-Fits entries stored sealed lack p Sealing SealDone = sealed ≡ true
-Fits entries stored sealed lack p (Reading q) (Beyond n) = (p.firm ≤ q) × (n ≡ p.firm)
-Fits entries stored sealed lack p (Reading q) (Got e) = (q < p.firm) × (slice_get entries q ≡ Some e)
-Fits entries stored sealed lack p (Reading q) (NoQuorum unreached) = (q < p.firm) × (unreached ≡ 1) × lack
-Fits entries stored sealed lack p (Trimming n) TrimDone = Unit {0}
-Fits entries stored sealed lack p task (NoQuorum unreached) = (unreached ≡ 1) × lack
-Fits entries stored sealed lack p task answer = ⊥
 
 -- a Read of a position of which no answer had spoken as it began
 abbrev pub IsUnspoken : Task → ℕ → Type 0

@@ -7,7 +7,7 @@ ghost use Rattle.quorum_cell.specs.Servers.{length_of, is_sealed};
 ghost use Rattle.quorum_cell.specs.declared.message.Ask.TheVariants.{Seal as AskSeal, Trim as AskTrim};
 ghost use Rattle.file_loglet.specs.Later.{IsLater, GoesOn, Wears, is_sealing};
 ghost use Rattle.file_loglet.specs.Asking.{asks, stores_up_to, Heeds, Obeys};
-ghost use Rattle.file_loglet.specs.Pending.{Answers, Fits, IsUnspoken, operation_of, told_at};
+ghost use Rattle.file_loglet.specs.Pending.{Answers, IsUnspoken, operation_of, told_at};
 
 use crate::pending::Pending;
 use crate::server::FileServer;
@@ -37,13 +37,10 @@ pub fn decide<D: Disk>(
     requires small { length entries.now ≤ 2 ^ 32 }
     requires spelled { (i : ℕ) (e : given.Entry) → slice_get entries.now i ≡ Some e → IsSpellable e }
     requires stored { length_of server.old.server ≤ length entries.now }
-    requires reach { p.now.reach ≤ length_of server.old.server }
     requires firm { p.now.firm ≤ length_of server.old.server }
     requires cut { cut ≤ length_of server.old.server }
-    requires shut { p.now.shut ≡ true → is_sealed server.old.server ≡ true }
     ensures later { IsLater entries.now cut (is_sealing p.now.task) server.old.server server.new.server }
     ensures wears { Wears server.old result server.new }
-    ensures fits { IfOk result (Fits entries.now (length_of server.new.server) (is_sealed server.new.server) (server.new.server.up ≡ false) p.now p.now.task) }
 
     // Out of reach is the server that is down now, and no other; one that is up answers as it is now.
     ensures unspoken { IsUnspoken p.now.task p.now.firm → IfOk result (λ answer. answer ≡ Answer.Beyond p.now.firm) }
@@ -83,14 +80,11 @@ fn ask<D: Disk>(
     requires small { length entries.now ≤ 2 ^ 32 }
     requires spelled { (i : ℕ) (e : given.Entry) → slice_get entries.now i ≡ Some e → IsSpellable e }
     requires stored { length_of server.old.server ≤ length entries.now }
-    requires reach { p.now.reach ≤ length_of server.old.server }
     requires reading { (q : ℕ) → p.now.task ≡ Task.Reading q → q < p.now.firm }
     requires firm { p.now.firm ≤ length_of server.old.server }
     requires cut { cut ≤ length_of server.old.server }
-    requires shut { p.now.shut ≡ true → is_sealed server.old.server ≡ true }
     ensures later { IsLater entries.now cut (is_sealing p.now.task) server.old.server server.new.server }
     ensures goes_on { GoesOn server.old result server.new }
-    ensures fits { IfOk result (Fits entries.now (length_of server.new.server) (is_sealed server.new.server) ⊥ p.now p.now.task) }
     ensures answers { IfOk result (Answers (drop cut entries.now) cut server.new.server (operation_of p.now) p.now.task) }
     ensures heeds { Heeds server.old.server (asks (drop cut entries.now) cut server.old.server p.now.size p.now.task) result server.new.server }
 {

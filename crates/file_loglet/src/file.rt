@@ -7,9 +7,8 @@ ghost use Rattle.journal_core.specs.Journal.{AnyCrashLeaves};
 ghost use Rattle.loglet_api.specs.Step.{IsAppend, bumped};
 ghost use Rattle.loglet_api.specs.View.{IsFresh};
 ghost use Rattle.server_records.specs.Spelled.{empty_server};
-ghost use Rattle.file_loglet.specs.State.{counted};
 ghost use Rattle.file_loglet.specs.Held.{Brings};
-ghost use Rattle.file_loglet.specs.File.{IsServed};
+ghost use Rattle.file_loglet.specs.File.{IsServed, counted};
 ghost use Rattle.file_loglet.specs.Steps.{IsCellOf, start_at};
 
 use crate::decide::{decide, told};
@@ -56,7 +55,7 @@ pub struct FileLoglet<D: Disk> {
 
 impl<D: Disk> Model for FileLoglet<D> {
     ghost use Rattle.file_loglet.specs.File.{FileView, file_view};
-    ghost use Rattle.file_loglet.specs.State.{IsWhole};
+    ghost use Rattle.file_loglet.specs.Whole.{IsWhole};
 
     ghost Value = { FileView };
 
