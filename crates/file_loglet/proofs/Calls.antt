@@ -1,15 +1,18 @@
 -- The calls of a file loglet, by its fields.
 use Rattle.std.proofs.Common.{◌≡◌, ℕ, ◌+◌, ◌-◌, ◌^◌, ◌<◌, ◌⊎◌, Bool, nat_eq, true, false, min, max, Option, Some, None, List, ◌++◌, length, is_some, map, drop, refl, inl, inr, ap, sym, ◌∙◌, subst, arith}
-use Rattle.std.specs.Prelude.{Result}
+use Rattle.std.specs.Prelude.{Result, [], ◌∷◌}
+use Rattle.std.proofs.lemmas.Bool.{cases_Bool, cases_lt}
 use Rattle.std.specs.HashMap.{get, Updates}
 use Rattle.delos_types.specs.declared.entry.Entry.{Entry}
 use Rattle.loglet_api.specs.declared.call.Answer.{Answer}
 use Rattle.loglet_api.specs.declared.call.Answer.TheVariants.{Beyond, NoQuorum}
 use Rattle.loglet_api.specs.declared.call.Op.{Op}
 use Rattle.loglet_api.specs.declared.call.Task.{Task}
+use Rattle.loglet_api.specs.declared.call.Task.TheVariants.{Placing, Settling, Finding, Sealing, Reading, Trimming}
 use Rattle.loglet_api.specs.View.{LogletView, operation_at, IsUndecided}
 use Rattle.loglet_api.specs.Step.{IsUndecidedAt, Carries, Begins, TakesAnswer, IsAppend, IsFull, bumped, entries_of, cut_by, seals_of, task_of, wanted_by, told_reach, told_firm, told_cap, told_lacks}
-use Rattle.quorum_cell.specs.Servers.{is_sealed}
+use Rattle.quorum_cell.specs.declared.message.Ask.{Ask}
+use Rattle.quorum_cell.specs.Servers.{Server, is_sealed, written}
 use Rattle.file_loglet.specs.declared.marks.Asked.{Asked}
 use Rattle.file_loglet.specs.declared.marks.Marks.{Marks}
 use Rattle.file_loglet.specs.declared.pending.Pending.{Pending}
@@ -18,15 +21,36 @@ use Rattle.file_loglet.specs.Held.{Held}
 use Rattle.file_loglet.specs.Later.{Wore}
 use Rattle.disk_model.specs.Disk.{bumped as disk_bumped}
 use Rattle.file_loglet.specs.Pending.{PendingMap, left_of, Answers, SetsAnswer, TakesOut, Waits, IsUnspoken, operation_of, shown_answer, answer_at, PutsAnswer, told_at}
-use Rattle.file_loglet.specs.Asking.{asks, Obeys}
+use Rattle.file_loglet.specs.Asking.{asks, Follows, Obeys}
 use Rattle.file_loglet.specs.File.{FileView, file_view, counted, down_of, loglet_of, IsDecidedAtOnce, IsAnswered, IsCarried, IsTaken, Takes}
 use Rattle.file_loglet.specs.Whole.{IsWhole}
 use Rattle.file_loglet.proofs.Steps.{answered, carries, decided_at_once, begins, refuses, takes, waits_undecided}
 use Rattle.file_loglet.proofs.Maps.{shown_at, answer_in, answer_shown, puts_answer, adds_no_answer}
 use Rattle.file_loglet.proofs.Laters.{wore_may_fail}
-use Rattle.file_loglet.proofs.Wholes.{shows, whole_sound, lies, may_take, MayTake, carried_onward, open_whole}
+use Rattle.file_loglet.proofs.Wholes.{written_sealed, shows, whole_sound, lies, may_take, MayTake, carried_onward, open_whole}
 
 -- ---- Carry
+
+-- what was sealed stays so, whatever is asked
+follows_sealed : (s new : Server) (rest : List Ask) → Follows s rest new → is_sealed s ≡ true → is_sealed new ≡ true
+follows_sealed s new [] h sealed = ap is_sealed h ∙ sealed
+follows_sealed s new (ask ∷ rest) (inl stops) sealed = ap is_sealed stops.1 ∙ sealed
+follows_sealed s new (ask ∷ rest) (inr goes) sealed = follows_sealed (written s ask) new rest goes (written_sealed s ask sealed)
+
+unspoken_task : (task : Task) (firm : ℕ) → IsUnspoken task firm ⊎ (IsUnspoken task firm → ⊥)
+unspoken_task (Reading q) firm = elim (cases_lt q firm) [ inl lt ↦ inr (λ le. omega (arith, lt, le)) | inr le ↦ inl le ]
+unspoken_task Placing firm = inr (λ x. x)
+unspoken_task (Settling n) firm = inr (λ x. x)
+unspoken_task Finding firm = inr (λ x. x)
+unspoken_task Sealing firm = inr (λ x. x)
+unspoken_task (Trimming n) firm = inr (λ x. x)
+
+pub obeyed_sealed : (old new : Held) (task : Task) (firm : ℕ) (rest : List Ask) → (old.server.up ≡ false → new ≡ old) → (IsUnspoken task firm → new ≡ old) → (¬ IsUnspoken task firm → old.server.up ≡ true → Follows old.server rest new.server) → is_sealed old.server ≡ true → is_sealed new.server ≡ true
+obeyed_sealed old new task firm rest idle unasked obeys sealed =
+    elim (unspoken_task task firm) [
+      | inl u ↦ ap (λ (h : Held). is_sealed h.server) (unasked u) ∙ sealed
+      | inr n ↦ elim (cases_Bool old.server.up) [ inl on ↦ follows_sealed old.server new.server rest (obeys n on) sealed | inr off ↦ ap (λ (h : Held). is_sealed h.server) (idle off) ∙ sealed ]
+    ]
 
 pub carries_whole : (room : ℕ) (es : List Entry) (old new : Held) (marks : Marks) (m n : PendingMap) (w : FileView) (t : ℕ) (p : Pending) (y : Answer) → file_view room es old marks m ≡ w → get nat_eq m t ≡ Some p → (is_sealed old.server ≡ true → is_sealed new.server ≡ true) → Wore old new
     → SetsAnswer m t y n → IsUndecidedAt w.loglet t → Carries (loglet_of room es old marks m) t (loglet_of room es new marks n)

@@ -1,5 +1,5 @@
 -- How the server goes on from write to write.
-use Rattle.std.proofs.Common.{◌≡◌, ℕ, zero, suc, ◌+◌, ◌-◌, ◌<◌, ◌≤◌, ◌⊎◌, Bool, nat_lt, true, false, Some, List, [], ◌∷◌, ◌++◌, length, drop, get_or, refl, inl, inr, ap, sym, ◌∙◌, subst, arith, length-append, length-drop, zero-add}
+use Rattle.std.proofs.Common.{◌≡◌, ℕ, zero, suc, ◌+◌, ◌-◌, ◌<◌, ◌≤◌, ◌⊎◌, Bool, nat_lt, true, false, Some, List, [], ◌∷◌, length, drop, get_or, refl, inl, inr, ap, sym, ◌∙◌, subst, arith, length-append, length-drop, zero-add}
 use Rattle.std.specs.Prelude.{slice_get, if◌then◌else◌, Result, Ok, Err, IsOk}
 use Rattle.std.proofs.lemmas.Bool.Decides.{nat_tests}
 use Rattle.std.proofs.lemmas.Bool.{cases_lt}
@@ -10,26 +10,9 @@ use Rattle.quorum_cell.specs.declared.message.Ask.{Ask}
 use Rattle.quorum_cell.specs.declared.message.Ask.TheVariants.{Store, Seal, Tail, Repair, Read, Trim}
 use Rattle.quorum_cell.specs.Servers.{Server, length_of, is_sealed, wrote}
 use Rattle.disk_model.specs.Disk.{DiskView, bumped}
-use Rattle.disk_model.specs.Armed.{Spends, TakesRecord}
+use Rattle.disk_model.specs.Armed.{TakesRecord}
 use Rattle.file_loglet.specs.Held.{Held, IsCalm, Fails, Writes}
-use Rattle.file_loglet.specs.Later.{Copies, MayStand, IsLater, records_between, TakesRecords, GoesOn, Wore, Stuck}
-
-pub later_same : (entries : List Entry) (cut : ℕ) (sealing : Bool) (s : Server) → IsLater entries cut sealing s s
-later_same entries cut sealing s = record { rises = omega arith; still = λ h. (h, refl); seals = λ h. inl h; base = λ h. h; copies = λ h. h; torn = inl refl }
-
-pub later_then : (entries : List Entry) (cut : ℕ) (sealing : Bool) (a b c : Server) → IsLater entries cut sealing a b → IsLater entries cut sealing b c → IsLater entries cut sealing a c
-later_then entries cut sealing a b c f s =
-    record {
-      rises = omega (arith, f.rises, s.rises);
-      still = λ h. (let one = f.still h in let two = s.still one.0 in (two.0, two.1 ∙ one.1));
-      seals = λ h. elim (s.seals h) [ inl before ↦ f.seals before | inr mine ↦ inr mine ];
-      base = λ h. s.base (f.base h);
-      copies = λ h. s.copies (f.copies h);
-      torn = elim s.torn [
-        | inl same ↦ elim f.torn [ inl before ↦ inl (same ∙ before) | inr mine ↦ inr (subst (MayStand entries cut sealing) (sym same) mine) ]
-        | inr mine ↦ inr mine
-      ];
-    }
+use Rattle.file_loglet.specs.Later.{records_between, TakesRecords, GoesOn, Wore}
 
 -- an element, by what a read of its place gives
 pub got_at : (xs : List Entry) (i : ℕ) (x : Entry) → i < length xs → x ≡ get_or xs i x → slice_get xs i ≡ Some x
@@ -42,85 +25,17 @@ within_get [] i x e = absurd (cc)
 within_get (y ∷ ys) zero x e = omega arith
 within_get (y ∷ ys) (suc i) x e = let rest = within_get ys i x e in omega arith
 
-last_or_before : (xs : List Entry) (y : Entry) (j : ℕ) (x : Entry) → slice_get (xs ++ y ∷ []) j ≡ Some x → (slice_get xs j ≡ Some x) ⊎ ((j ≡ length xs) × (y ≡ x))
-last_or_before [] y zero x h = inr (refl, cc)
-last_or_before [] y (suc j) x h = absurd (cc)
-last_or_before (z ∷ xs) y zero x h = inl h
-last_or_before (z ∷ xs) y (suc j) x h = elim (last_or_before xs y j x h) [ inl r ↦ inl r | inr e ↦ inr (ap suc e.0, e.1) ]
-
-stored_copies : (entries : List Entry) (s : Server) (e : Entry) → slice_get entries (length_of s) ≡ Some e → Copies entries s → Copies entries (wrote s (Store (length_of s) e))
-stored_copies entries s e here h =
-    let lt = within_get entries (length_of s) e here in
-    record {
-      within = omega (arith, length-append s.entries (e ∷ []));
-      same = λ i x is. elim (last_or_before s.entries e i x is) [
-        | inl before ↦ h.same i x before
-        | inr last ↦ ap (λ n. slice_get entries (s.base + n)) last.0 ∙ here ∙ ap Some last.1
-      ];
-    }
-
--- one entry more
-pub stored_later : (entries : List Entry) (cut : ℕ) (sealing : Bool) (s : Server) (e : Entry) → is_sealed s ≡ false → slice_get entries (length_of s) ≡ Some e → IsLater entries cut sealing s (wrote s (Store (length_of s) e))
-stored_later entries cut sealing s e unsealed here =
-    record {
-      rises = omega (arith, length-append s.entries (e ∷ []));
-      still = λ h. absurd (cc);
-      seals = λ h. inl h;
-      base = λ h. h;
-      copies = stored_copies entries s e here;
-      torn = inl refl;
-    }
-
--- the disk failed
-pub torn_later : (entries : List Entry) (cut : ℕ) (sealing up : Bool) (s : Server) (ask : Ask) → MayStand entries cut sealing (Some ask) → IsLater entries cut sealing s (record s { up = up; torn = Some ask })
-torn_later entries cut sealing up s ask mine = record { rises = omega arith; still = λ h. (h, refl); seals = λ h. inl h; base = λ h. h; copies = λ h. record { within = h.within; same = h.same }; torn = inr mine }
-
--- one write for the entry at its place, however it ends
-pub store_later : {U : Type 0} (entries : List Entry) (cut : ℕ) (sealing : Bool) (old new : Held) (e : Entry) (done : Result U Fault) → is_sealed old.server ≡ false → slice_get entries (length_of old.server) ≡ Some e → Writes old (Store (length_of old.server) e) done new → IsLater entries cut sealing old.server new.server
-store_later entries cut sealing old new e (Ok u) unsealed here w = subst (λ (s : Server). IsLater entries cut sealing old.server s) (sym w.0) (stored_later entries cut sealing old.server e unsealed here)
-store_later entries cut sealing old new e (Err Disk) unsealed here w = subst (λ (s : Server). IsLater entries cut sealing old.server s) (sym w.0) (torn_later entries cut sealing false old.server (Store (length_of old.server) e) here)
-store_later entries cut sealing old new e (Err Memory) unsealed here w = subst (λ (s : Server). IsLater entries cut sealing old.server s) (sym w.0) (later_same entries cut sealing old.server)
-
 pub slice_get-drop : {X : Type 0} (n : ℕ) (xs : List X) (i : ℕ) → slice_get (drop n xs) i ≡ slice_get xs (n + i)
 slice_get-drop zero xs i = rw zero-add refl
 slice_get-drop (suc n) [] i = refl
 slice_get-drop (suc n) (x ∷ xs) i = let e : suc n + i ≡ suc (n + i) = omega arith in rw e (slice_get-drop n xs i)
 
-trimmed_copies : (entries : List Entry) (s : Server) (n : ℕ) → s.base < n → n ≤ length_of s → Copies entries s → Copies entries (wrote s (Trim n))
-trimmed_copies entries s n above within h =
-    record {
-      within = omega (arith, length-drop (n - s.base) s.entries, h.within);
-      same = λ i x is. (let e : s.base + ((n - s.base) + i) ≡ n + i = omega arith in
-          rw e at (h.same ((n - s.base) + i) x (sym (slice_get-drop (n - s.base) s.entries i) ∙ is)));
-    }
+-- one entry more
+pub stored_rises : (first old new : Server) (e : Entry) → length_of first ≤ length_of old → new ≡ wrote old (Store (length_of old) e) → length_of first ≤ length_of new
+stored_rises first old new e le is = omega (arith, le, ap length_of is, length-append old.entries (e ∷ []))
 
 trimmed_length : (s : Server) (n : ℕ) → s.base < n → n ≤ length_of s → length_of (wrote s (Trim n)) ≡ length_of s
 trimmed_length s n above within = omega (arith, length-drop (n - s.base) s.entries)
-
--- the entries below the cut are let go
-pub trimmed_later : (entries : List Entry) (cut : ℕ) (sealing : Bool) (s : Server) (n : ℕ) → n ≤ cut → s.base < n → n ≤ length_of s → IsLater entries cut sealing s (wrote s (Trim n))
-trimmed_later entries cut sealing s n le above within =
-    record {
-      rises = omega (arith, trimmed_length s n above within);
-      still = λ h. (h, trimmed_length s n above within);
-      seals = λ h. inl h;
-      base = λ h. le;
-      copies = trimmed_copies entries s n above within;
-      torn = inl refl;
-    }
-
-wrote_trim : {U : Type 0} (entries : List Entry) (cut n : ℕ) (sealing : Bool) (old new : Held) (done : Result U Fault) → n ≤ cut → old.server.base < n → n ≤ length_of old.server → Writes old (Trim n) done new → IsLater entries cut sealing old.server new.server
-wrote_trim entries cut n sealing old new (Ok u) le above within w = subst (λ (s : Server). IsLater entries cut sealing old.server s) (sym w.0) (trimmed_later entries cut sealing old.server n le above within)
-wrote_trim entries cut n sealing old new (Err Disk) le above within w = subst (λ (s : Server). IsLater entries cut sealing old.server s) (sym w.0) (torn_later entries cut sealing false old.server (Trim n) le)
-wrote_trim entries cut n sealing old new (Err Memory) le above within w = subst (λ (s : Server). IsLater entries cut sealing old.server s) (sym w.0) (later_same entries cut sealing old.server)
-
--- a trim of what is at or below the cut
-pub trim_later : {U : Type 0} (entries : List Entry) (cut n : ℕ) (sealing : Bool) (old new : Held) (done : Result U Fault) → n ≤ cut → n ≤ length_of old.server → (old.server.base < n → Writes old (Trim n) done new) → (n ≤ old.server.base → IsOk done × (new ≡ old)) → IsLater entries cut sealing old.server new.server
-trim_later entries cut n sealing old new done le within above gone =
-    elim (cases_lt old.server.base n) [
-      | inl lt ↦ wrote_trim entries cut n sealing old new done le lt within (above lt)
-      | inr ge ↦ subst (λ (w : Held). IsLater entries cut sealing old.server w.server) (sym (gone ge).1) (later_same entries cut sealing old.server)
-    ]
 
 -- an entry at or behind the cut, in what is left of the log
 pub got_behind : (entries : List Entry) (cut q : ℕ) (e : Entry) → slice_get entries q ≡ Some e → cut ≤ q → slice_get (drop cut entries) (q - cut) ≡ Some e
@@ -176,9 +91,6 @@ takes_one old new t = record { taken = omega (arith, t.taken, t.at_most); still 
 
 takes_one_more : (n old mid new : ℕ) → TakesRecords n old mid → TakesRecord 0 mid new → TakesRecords (n + 1) old new
 takes_one_more n old mid new f t = record { taken = omega (arith, f.taken, t.taken, t.at_most); still = t.still ∙ f.still }
-
-spends_none : (n : ℕ) → Spends 1 n n
-spends_none n = record { fewer = omega arith; at_most = omega arith; still = refl }
 
 calm_same : (d : DiskView) → IsCalm d d
 calm_same d = record { faults = refl; word = refl }
@@ -255,6 +167,3 @@ MayFail old new = ((new.server.up ≡ old.server.up) × (new.disk.faults ≡ old
 pub wore_may_fail : (old new : Held) → Wore old new → MayFail old new
 wore_may_fail old new (inl same) = inl (same.0, same.1.faults)
 wore_may_fail old new (inr failed) = inr (failed.1, failed.2.faults)
-
-pub stuck_may_fail : (old new : Held) → Stuck old new → MayFail old new
-stuck_may_fail old new h = inl (h.0, h.1.faults)

@@ -1,5 +1,5 @@
 -- The open operations as the loglet shows them.
-use Rattle.std.proofs.Common.{◌≡◌, ℕ, ◌⊎◌, Bool, nat_eq, true, false, cond, Option, None, Some, is_some, List, [], ◌∷◌, map, refl, inl, inr, ap, sym, ◌∙◌, arith}
+use Rattle.std.proofs.Common.{◌≡◌, ℕ, Bool, nat_eq, true, false, cond, Option, None, Some, is_some, List, [], ◌∷◌, map, refl, inl, inr, ap, sym, ◌∙◌, arith}
 use Rattle.std.specs.Prelude.{unwrap_or}
 use Rattle.std.specs.Option.{option_map}
 use Rattle.std.specs.Map.{lookup}
@@ -20,9 +20,6 @@ lookup_shown test (e ∷ es) =
 
 pub shown_at : (m : PendingMap) (t : ℕ) (p : Pending) → get nat_eq m t ≡ Some p → operation_at (map shown m.entries) t ≡ Some (operation_of p)
 shown_at m t p h = lookup_shown (nat_eq t) m.entries ∙ ap (λ x. option_map operation_of x) h
-
-pub shown_none : (m : PendingMap) (t : ℕ) → get nat_eq m t ≡ None → operation_at (map shown m.entries) t ≡ None
-shown_none m t h = lookup_shown (nat_eq t) m.entries ∙ ap (λ x. option_map operation_of x) h
 
 of_shown : (x : Option Pending) (o : Operation) → option_map operation_of x ≡ Some o → (p : Pending) × (x ≡ Some p) × (operation_of p ≡ o)
 of_shown None o h = absurd (cc)
@@ -49,15 +46,6 @@ pub puts : (m n : PendingMap) (t : ℕ) (w : Option Pending) → Updates nat_eq 
 puts m n t w u q =
     lookup_shown (nat_eq q) n.entries ∙ ap (λ x. option_map operation_of x) (u.0 q) ∙ map_if (nat_eq t q) w (get nat_eq m q)
     ∙ ap (λ x. cond (nat_eq t q) (option_map operation_of w) x) (sym (lookup_shown (nat_eq q) m.entries))
-
--- what is there after a change of one was there before, or was put
-pub get_after : (m n : PendingMap) (t q : ℕ) (w : Option Pending) (p : Pending) → Updates nat_eq m n t w → get nat_eq n q ≡ Some p → ((t ≡ q) × (w ≡ Some p)) ⊎ (get nat_eq m q ≡ Some p)
-get_after m n t q w p u is =
-    let e = sym (u.0 q) ∙ is in
-    elim (cases_Bool (nat_eq t q)) [
-      | inl same ↦ inl ((grind (arith, nat_tests)), rw same at e)
-      | inr other ↦ inr (rw other at e)
-    ]
 
 -- ---- answers
 

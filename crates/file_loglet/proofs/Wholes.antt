@@ -224,10 +224,6 @@ rose_counted f g r n one h = omega (arith, h)
 same_counted : (f g r : ℕ) → g ≡ f → RoseBy 0 (counted f r) (counted g r)
 same_counted f g r e = omega arith
 
-small_down : (b : Bool) → down_of b ≤ 1
-small_down true = omega arith
-small_down false = omega arith
-
 risen : (old new : Held) (r : ℕ) → MayFail old new → counted old.disk.faults r ≤ counted new.disk.faults r
 risen old new r (inl same) = omega (arith, same.1)
 risen old new r (inr failed) = omega (arith, failed.1)
@@ -251,7 +247,7 @@ wrote_sealed s (Repair p e) h = h
 wrote_sealed s (Read p) h = h
 wrote_sealed s (Trim n) h = h
 
-written_sealed : (s : Server) (ask : Ask) → is_sealed s ≡ true → is_sealed (written s ask) ≡ true
+pub written_sealed : (s : Server) (ask : Ask) → is_sealed s ≡ true → is_sealed (written s ask) ≡ true
 written_sealed s ask h = elim (cases_Bool (writes s ask)) [ inl does ↦ rw does (wrote_sealed s ask h) | inr doesnt ↦ rw doesnt h ]
 
 restarted_sealed : (s : Server) (kept : Bool) (torn : Option Ask) → is_sealed s ≡ true → is_sealed (restarted s kept torn) ≡ true

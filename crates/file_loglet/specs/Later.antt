@@ -1,37 +1,10 @@
--- How the server of a file loglet goes on, beside the entries of the log.
-use Rattle.std.specs.Prelude.{◌≡◌, ◌⊎◌, ℕ, ◌+◌, ◌-◌, ◌*◌, ◌≤◌, nat_lt, if◌then◌else◌, Bool, true, false, Option, Some, None, List, length, slice_get, Result, Ok, Err}
-use Rattle.delos_types.specs.declared.entry.Entry.{Entry}
-use Rattle.loglet_api.specs.declared.call.Task.{Task}
-use Rattle.loglet_api.specs.declared.call.Task.TheVariants.{Placing, Settling, Finding, Sealing, Reading, Trimming}
+-- How the server of a file loglet goes on, and what that takes of its disk.
+use Rattle.std.specs.Prelude.{◌≡◌, ◌⊎◌, ℕ, ◌+◌, ◌-◌, ◌*◌, nat_lt, if◌then◌else◌, true, false, Result, Ok, Err}
 use Rattle.journal_core.specs.declared.fault.Fault.{Fault}
 use Rattle.journal_core.specs.declared.fault.Fault.TheVariants.{Disk, Memory}
-use Rattle.quorum_cell.specs.declared.message.Ask.{Ask}
-use Rattle.quorum_cell.specs.declared.message.Ask.TheVariants.{Store, Seal, Trim}
 use Rattle.quorum_cell.specs.Servers.{Server, length_of, is_sealed}
 use Rattle.disk_model.specs.Armed.{Spends}
 use Rattle.file_loglet.specs.Held.{Held, IsCalm, Fails}
-
--- what the server holds stands in the log at its place
-pub record Copies (entries : List Entry) (s : Server) : Type 0 where
-  pub within : length_of s ≤ length entries
-  pub same : (i : ℕ) (e : Entry) → slice_get s.entries i ≡ Some e → slice_get entries (s.base + i) ≡ Some e
-
--- a torn write is one that some operation asked for: the entry of the log, a seal where one was begun, a trim up to the cut
-abbrev pub MayStand : List Entry → ℕ → Bool → Option Ask → Type 0
-MayStand entries cut sealing None = Unit {0}
-MayStand entries cut sealing (Some (Store p e)) = slice_get entries p ≡ Some e
-MayStand entries cut sealing (Some Seal) = sealing ≡ true
-MayStand entries cut sealing (Some (Trim n)) = n ≤ cut
-MayStand entries cut sealing (Some ask) = ⊥
-
--- the server wrote for operations
-pub record IsLater (entries : List Entry) (cut : ℕ) (sealing : Bool) (old new : Server) : Type 0 where
-  pub rises : length_of old ≤ length_of new
-  pub still : is_sealed old ≡ true → (is_sealed new ≡ true) × (length_of new ≡ length_of old)
-  pub seals : is_sealed new ≡ true → (is_sealed old ≡ true) ⊎ (sealing ≡ true)
-  pub base : old.base ≤ cut → new.base ≤ cut
-  pub copies : Copies entries old → Copies entries new
-  pub torn : (new.torn ≡ old.torn) ⊎ MayStand entries cut sealing new.torn
 
 -- how many records were written: of entries, of the seal, of a trim
 abbrev pub records_between : Server → Server → ℕ
@@ -69,11 +42,3 @@ Stuck old new = (new.server.up ≡ old.server.up) × IsCalm old.disk new.disk ×
 abbrev pub Wears : {U E : Type 0} → Held → Result U E → Held → Type 0
 Wears old (Ok u) new = Wore old new
 Wears old (Err e) new = Stuck old new
-
-abbrev pub is_sealing : Task → Bool
-is_sealing Sealing = true
-is_sealing Placing = false
-is_sealing (Settling n) = false
-is_sealing Finding = false
-is_sealing (Reading p) = false
-is_sealing (Trimming n) = false

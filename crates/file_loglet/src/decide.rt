@@ -1,11 +1,11 @@
 //! What carrying an operation comes to.
-ghost use Rattle.std.specs.Prelude.{◌≡◌, ◌+◌, ◌^◌, ◌<◌, ◌≤◌, ℕ, Bool, true, false, if◌then◌else◌, List, [], ◌∷◌, length, drop, slice_get, Some, IfOk, OnOk, OnErr};
+ghost use Rattle.std.specs.Prelude.{◌≡◌, ◌+◌, ◌^◌, ◌<◌, ◌≤◌, ℕ, true, false, if◌then◌else◌, [], ◌∷◌, length, drop, slice_get, Some, IfOk, OnOk, OnErr};
 ghost use Rattle.delos_types.specs.Spelling.{IsSpellable};
 ghost use Rattle.delos_types.specs.declared.entry.Entry as given;
 ghost use Rattle.loglet_api.specs.declared.call.Answer.TheVariants.{Sealed};
 ghost use Rattle.quorum_cell.specs.Servers.{length_of, is_sealed};
 ghost use Rattle.quorum_cell.specs.declared.message.Ask.TheVariants.{Seal as AskSeal, Trim as AskTrim};
-ghost use Rattle.file_loglet.specs.Later.{IsLater, GoesOn, Wears, is_sealing};
+ghost use Rattle.file_loglet.specs.Later.{GoesOn, Wears};
 ghost use Rattle.file_loglet.specs.Asking.{asks, stores_up_to, Heeds, Obeys};
 ghost use Rattle.file_loglet.specs.Pending.{Answers, IsUnspoken, operation_of, told_at};
 
@@ -39,7 +39,6 @@ pub fn decide<D: Disk>(
     requires stored { length_of server.old.server ≤ length entries.now }
     requires firm { p.now.firm ≤ length_of server.old.server }
     requires cut { cut ≤ length_of server.old.server }
-    ensures later { IsLater entries.now cut (is_sealing p.now.task) server.old.server server.new.server }
     ensures wears { Wears server.old result server.new }
 
     // Out of reach is the server that is down now, and no other; one that is up answers as it is now.
@@ -83,7 +82,6 @@ fn ask<D: Disk>(
     requires reading { (q : ℕ) → p.now.task ≡ Task.Reading q → q < p.now.firm }
     requires firm { p.now.firm ≤ length_of server.old.server }
     requires cut { cut ≤ length_of server.old.server }
-    ensures later { IsLater entries.now cut (is_sealing p.now.task) server.old.server server.new.server }
     ensures goes_on { GoesOn server.old result server.new }
     ensures answers { IfOk result (Answers (drop cut entries.now) cut server.new.server (operation_of p.now) p.now.task) }
     ensures heeds { Heeds server.old.server (asks (drop cut entries.now) cut server.old.server p.now.size p.now.task) result server.new.server }
@@ -110,7 +108,6 @@ fn store<D: Disk>(
     requires within { end ≤ length entries.now }
     requires small { length entries.now ≤ 2 ^ 32 }
     requires spelled { (i : ℕ) (e : given.Entry) → slice_get entries.now i ≡ Some e → IsSpellable e }
-    ensures later { (cut : ℕ) (sealing : Bool) → IsLater entries.now cut sealing server.old.server server.new.server }
     ensures goes_on { GoesOn server.old result server.new }
     ensures sealed { is_sealed server.new.server ≡ is_sealed server.old.server }
     ensures heeds { Heeds server.old.server (stores_up_to (drop (length_of server.old.server) entries.now) (length_of server.old.server) end) result server.new.server }
@@ -136,7 +133,6 @@ fn store_up_to<D: Disk>(
     requires within { end ≤ length entries.now }
     requires small { length entries.now ≤ 2 ^ 32 }
     requires spelled { (i : ℕ) (e : given.Entry) → slice_get entries.now i ≡ Some e → IsSpellable e }
-    ensures later { (cut : ℕ) (sealing : Bool) → IsLater entries.now cut sealing server.old.server server.new.server }
     ensures goes_on { GoesOn server.old result server.new }
     ensures unsealed { is_sealed server.new.server ≡ false }
     ensures heeds { Heeds server.old.server (stores_up_to (drop (length_of server.old.server) entries.now) (length_of server.old.server) end) result server.new.server }
@@ -164,7 +160,6 @@ fn tail<D: Disk>(server: &FileServer<D>) -> Answer
 #[tactic(auto, using(crate::proofs::Laters::goes_same, crate::proofs::Laters::sealed_goes, crate::proofs::Heeding::heeds_sealed, crate::proofs::Heeding::heeds_seal))]
 fn seal<D: Disk>(server: &mut FileServer<D>) -> Result<Answer, Fault>
     requires up { server.old.server.up ≡ true }
-    ensures later { (entries : List given.Entry) (cut : ℕ) → IsLater entries cut true server.old.server server.new.server }
     ensures goes_on { GoesOn server.old result server.new }
     ensures heeds { Heeds server.old.server (AskSeal ∷ []) result server.new.server }
     ensures sealed { IfOk result (λ answer. (answer ≡ Answer.SealDone) × (is_sealed server.new.server ≡ true)) }
@@ -180,7 +175,6 @@ fn seal<D: Disk>(server: &mut FileServer<D>) -> Result<Answer, Fault>
 fn trim<D: Disk>(server: &mut FileServer<D>, cut: u64) -> Result<Answer, Fault>
     requires up { server.old.server.up ≡ true }
     requires within { cut ≤ length_of server.old.server }
-    ensures later { (entries : List given.Entry) (top : ℕ) (sealing : Bool) → cut ≤ top → IsLater entries top sealing server.old.server server.new.server }
     ensures goes_on { GoesOn server.old result server.new }
     ensures heeds { Heeds server.old.server (AskTrim cut ∷ []) result server.new.server }
     ensures trimmed { IfOk result (λ answer. (answer ≡ Answer.TrimDone) × (cut ≤ server.new.server.base)) }

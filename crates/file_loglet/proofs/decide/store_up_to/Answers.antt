@@ -1,8 +1,8 @@
-use Rattle.std.proofs.Common.{◌≡◌, ◌<◌, false, length, Some, ap, sym, ◌∙◌, arith}
+use Rattle.std.proofs.Common.{◌≡◌, ◌<◌, length, Some, ap, sym, ◌∙◌, arith}
 use Rattle.std.specs.Prelude.{slice_get, Ok}
 use Rattle.std.proofs.lemmas.Result.{err_from_is_err_and}
 use Rattle.quorum_cell.specs.Servers.{Server, length_of, is_sealed}
-use Rattle.file_loglet.proofs.Laters.{got_at, later_then, store_later, store_goes}
+use Rattle.file_loglet.proofs.Laters.{got_at, stored_rises, store_goes}
 use Rattle.file_loglet.proofs.Heeding.{lacking, goes_stored, heeds_all, heeds_some}
 use Rattle.file_loglet.proofs.decide.store_up_to.Goals as goal
 
@@ -17,10 +17,9 @@ loop-server-preserved g c =
     let here : slice_get c.args.entries.now (length_of c.loop-server.server.server) ≡ Some c.index-entries-next.result =
     ap (λ i. slice_get c.args.entries.now i) (sym c.length-next.ensures.length) ∙ got_at c.args.entries.now c.length-next.result c.index-entries-next.result lt c.index-entries-next.is in
     let goes = store_goes c.args.server.now c.loop-server.server c.store.new.self c.index-entries-next.result (Ok c.in_ok-store.field-0) c.loop-server.invariant.calm c.loop-server.invariant.counted
-    (c.loop-server.invariant.later 0 false).rises c.loop-server.invariant.up (c.requires.unsealed ∙ sym c.loop-server.invariant.unsealed) c.in_ok-store.ensures in
+    c.loop-server.invariant.rises c.loop-server.invariant.up (c.requires.unsealed ∙ sym c.loop-server.invariant.unsealed) c.in_ok-store.ensures in
     record {
-      later = λ cut sealing. later_then c.args.entries.now cut sealing c.args.server.now.server c.loop-server.server.server c.store.new.self.server (c.loop-server.invariant.later cut sealing)
-          (store_later c.args.entries.now cut sealing c.loop-server.server c.store.new.self c.index-entries-next.result c.store.result c.loop-server.invariant.unsealed here c.store.ensures);
+      rises = stored_rises c.args.server.now.server c.loop-server.server.server c.store.new.self.server c.index-entries-next.result c.loop-server.invariant.rises c.in_ok-store.ensures.0;
       up = goes.0;
       unsealed = ap (λ (s : Server). is_sealed s) c.in_ok-store.ensures.0 ∙ c.loop-server.invariant.unsealed;
       calm = goes.1;
@@ -28,14 +27,6 @@ loop-server-preserved g c =
       heeds = goes_stored c.args.entries.now c.args.server.now.server c.loop-server.server.server c.store.new.self.server (lacking c.args.entries.now c.args.server.now.server c.args.end) c.args.end c.index-entries-next.result
           c.loop-server.invariant.unsealed (omega (arith, c.length.ensures.length)) here c.in_ok-store.ensures.0 c.loop-server.invariant.heeds;
     }
-
-pub returns-in_err-store-clause-later : goal.returns-in_err-store-clause-later
-returns-in_err-store-clause-later g c cut sealing =
-    let lt : c.length-next.result < length c.args.entries.now = omega (arith, c.requires.within, c.length.ensures.length, c.length-next.ensures.length) in
-    let here : slice_get c.args.entries.now (length_of c.loop-server.server.server) ≡ Some c.index-entries-next.result =
-    ap (λ i. slice_get c.args.entries.now i) (sym c.length-next.ensures.length) ∙ got_at c.args.entries.now c.length-next.result c.index-entries-next.result lt c.index-entries-next.is in
-    later_then c.args.entries.now cut sealing c.args.server.now.server c.loop-server.server.server c.store.new.self.server (c.loop-server.invariant.later cut sealing)
-    (store_later c.args.entries.now cut sealing c.loop-server.server c.store.new.self c.index-entries-next.result c.store.result c.loop-server.invariant.unsealed here c.store.ensures)
 
 pub returns-in_err-store-clause-heeds : goal.returns-in_err-store-clause-heeds
 returns-in_err-store-clause-heeds g c =

@@ -1,13 +1,13 @@
-use Rattle.std.proofs.Common.{◌≡◌, ℕ, ◌-◌, Bool, true, false}
+use Rattle.std.proofs.Common.{◌≡◌, ◌-◌, ◌≤◌, true, false}
 use Rattle.quorum_cell.specs.Servers.{length_of, is_sealed}
 use Rattle.file_loglet.specs.Held.{IsCalm}
-use Rattle.file_loglet.specs.Later.{IsLater, records_between, TakesRecords}
+use Rattle.file_loglet.specs.Later.{records_between, TakesRecords}
 use Rattle.file_loglet.proofs.Heeding.{lacking, GoesOnBy}
 use Rattle.file_loglet.proofs.decide.store_up_to.Given as goal
 
 abbrev pub invariant-loop-server : goal.invariant-loop-server
 invariant-loop-server g l = record {
-  later : (cut : ℕ) (sealing : Bool) → IsLater l.entries cut sealing l.initial.server.server l.server.server;
+  rises : length_of l.initial.server.server ≤ length_of l.server.server;
   up : l.server.server.up ≡ true;
   unsealed : is_sealed l.server.server ≡ false;
   calm : IsCalm l.initial.server.disk l.server.disk;

@@ -9,7 +9,7 @@ use Rattle.quorum_cell.specs.Cells.{Cell}
 use Rattle.file_loglet.specs.File.{FileView, IsDecidedAtOnce, loglet_of}
 use Rattle.file_loglet.proofs.Wholes.{lies, may_carry, open_whole, cell_from, step_of, whole_by, does_shown, asked_shown}
 use Rattle.file_loglet.proofs.Serving.{stuck_served, carried_served, wore_shown, stuck_shown}
-use Rattle.file_loglet.proofs.Calls.{carries_whole, at_once_whole, answered_whole, unanswered_whole, obeyed_whole, unmoved_shown, undecided_is_open}
+use Rattle.file_loglet.proofs.Calls.{obeyed_sealed, carries_whole, at_once_whole, answered_whole, unanswered_whole, obeyed_whole, unmoved_shown, undecided_is_open}
 use Rattle.file_loglet.proofs.Ties.{seen_old, seen_new}
 use Rattle.file_loglet.proofs.Carrying.{stuck_steps, carry_steps}
 use Rattle.file_loglet.proofs.file.FileLogletLoglet.carry.Goals as goal
@@ -85,7 +85,7 @@ invariant_of-self-2 g c =
     (subst (Carries (loglet_of i.room i.entries.items i.server i.marks i.pending) c.args.ticket)
     (sym (asked_shown i.room i.entries.items c.decide.new.server i.marks c.carried-self-inside.result c.set_answer.new.pending _ c.carried-self-inside.ensures))
     (carries_whole i.room i.entries.items i.server c.decide.new.server i.marks i.pending c.set_answer.new.pending _ c.args.ticket c.index.result.now c.in-Ok.answer c.self.view_is
-    (rw c.number-number.ensures at c.index.ensures) (λ sealed. (c.in-Ok.ensures.later.still sealed).0) c.in-Ok.ensures.wears (rw c.number-number.ensures at c.set_answer.ensures) c.requires)) in
+    (rw c.number-number.ensures at c.index.ensures) (obeyed_sealed i.server c.decide.new.server c.index.result.now.task c.index.result.now.firm _ c.in-Ok.ensures.idle c.in-Ok.ensures.unasked c.in-Ok.ensures.obeys) c.in-Ok.ensures.wears (rw c.number-number.ensures at c.set_answer.ensures) c.requires)) in
     let at_once =
     subst (IsDecidedAtOnce c.args.self.now.loglet c.args.ticket)
     (sym (asked_shown i.room i.entries.items c.decide.new.server i.marks c.carried-self-inside.result c.set_answer.new.pending _ c.carried-self-inside.ensures))
@@ -139,7 +139,7 @@ returns-clause-goes g c =
     (subst (Carries (loglet_of i.room i.entries.items i.server i.marks i.pending) c.args.ticket)
     (sym (asked_shown i.room i.entries.items c.decide.new.server i.marks c.carried-self-inside.result c.set_answer.new.pending _ c.carried-self-inside.ensures))
     (carries_whole i.room i.entries.items i.server c.decide.new.server i.marks i.pending c.set_answer.new.pending _ c.args.ticket c.index.result.now c.in-Ok.answer c.self.view_is
-    (rw c.number-number.ensures at c.index.ensures) (λ sealed. (c.in-Ok.ensures.later.still sealed).0) c.in-Ok.ensures.wears (rw c.number-number.ensures at c.set_answer.ensures) c.requires)) in
+    (rw c.number-number.ensures at c.index.ensures) (obeyed_sealed i.server c.decide.new.server c.index.result.now.task c.index.result.now.firm _ c.in-Ok.ensures.idle c.in-Ok.ensures.unasked c.in-Ok.ensures.obeys) c.in-Ok.ensures.wears (rw c.number-number.ensures at c.set_answer.ensures) c.requires)) in
     step_of _ _ c.self.invariant.cell _ _ (λ (x : Cell). x.entries) (cell_from i.room i.entries.items i.server i.marks i.pending _ c.self.view_is c.self.invariant) c.requires does
     (carry_steps _ _ c.args.ticket c.args.word _ (seen_old i.room i.entries.items i.server i.marks i.pending _ c.self.view_is) (seen_new i.room i.entries.items c.decide.new.server c.carried-self-inside.result c.set_answer.new.pending) does.moves (returns-clause-at_once g c) (returns-clause-answered g c) (returns-clause-obeys g c))
 
