@@ -194,9 +194,11 @@ impl<D: Disk> Register for MetaRegister<D> {
         ensures reopens { Reopens self.old.register word result self.new.register }
         ensures downs { self.new.downs ≡ self.old.downs }
 
-        // Where it is up the disk stays as it was; else nothing is armed where it succeeds, and no fault was counted.
+        // Where it is up the disk stays as it was; else, where it succeeds, nothing is armed, it was reopened by this word, and no
+        // fault was counted.
         ensures idle { self.old.register.down ≡ false → self.new.disk ≡ self.old.disk }
         ensures disarmed { self.old.register.down ≡ true → IfOk result (λ up. up ≡ true → self.new.disk.armed ≡ 0) }
+        ensures word { self.old.register.down ≡ true → IfOk result (λ up. up ≡ true → self.new.disk.word ≡ word) }
         ensures no_fault { IfOk result (λ up. up ≡ true → self.new.disk.faults ≡ self.old.disk.faults) }
         ensures no_fault_memory { OnErr result (self.new.disk.faults ≡ self.old.disk.faults) }
 
