@@ -1,159 +1,140 @@
 """Tries wrong bodies in a scratch copy, and tells how each is refused (see audit.sh)."""
 import argparse
 import collections
+import concurrent.futures
 import os
 import re
+import resource
 import shutil
 import signal
+import subprocess
 import sys
 import tempfile
-import threading
 
-import toolchain
-
-from edits import Edit, batches_of, texts_of
+sys.dont_write_bytecode = True
+from crates import crates_of, repository
+from edits import Edit, batches_of, texts_of, why_not
 
 CLAUSE, SHAPE, NAME, MISSED, UNKNOWN = "a", "b", "c", "d", "-"
 SORTS = (CLAUSE, SHAPE, NAME, MISSED, UNKNOWN)
+# What of a crate a check reads, and where it keeps what it proved.
+PARTS = ("src", "specs", "proofs", "out")
 
 # A line of the prover at a place of a file; what it says of a goal that is left; and a proof file's complaint of a name that is gone, or
 # of what cites such a proof.
 AT = re.compile(r"(?:note: )?(?:\./)?((src|specs|proofs)/\S+?):(\d+):\d+:")
 LEFT = re.compile(r"it is not proved that|: error")
 GONE = re.compile(r"has no field|is not in scope|has no `|was not admitted")
-# What a check says of a function that `--only` doesn't find, and of one that its front end refuses.
+# What a check says of a function that `--only` doesn't find, of one that its front end refuses, and of a text that can't be read.
 NOT_FOUND = re.compile(r"has no function|fits \d+ functions|fits several")
 REJECTED = re.compile(r"\berror\[[\w-]+\]")
+UNREAD = re.compile(r"(?:\./)?(?:src|specs)/\S+?:\d+:\d+: error: (?!`)|is no name|operand is missing|expected the end|cannot continue")
 
-Try = collections.namedtuple("Try", "sort said seconds")
+Try = collections.namedtuple("Try", "sort said")
 
 
 class Audit:
-    """The crates in a scratch copy, with the libraries that earlier proofs on this machine made."""
+    """A scratch copy of the crates that are tried and of those below them, with what `rt check` kept in this checkout."""
 
-    def __init__(self, rt, top, room, said):
-        self.rt, self.said = rt, said and os.path.abspath(said)
-        rt.copy_crates(top, f"{room}/repository")
+    def __init__(self, crates, top, room, said):
+        self.top, self.said = room, said and os.path.abspath(said)
+        needed = {it.name for it in crates}.union(*(it.below() for it in crates))
         # (it is the top of a repository)
-        os.mkdir(f"{room}/repository/.git")
-        os.chdir(f"{room}/repository")
-        self.crates = toolchain.crates_of(rt, os.getcwd())
-        self.kept = rt.Kept(self.crates)
-        self.built, self.building, self.took = set(), threading.RLock(), threading.local()
-        # (its first call sets a signal's handler, which only the main thread may)
-        rt.rtlib.guarded()
-        toolchain.time_all(self.note)
+        os.mkdir(f"{room}/.git")
+        for file in ("crates.txt", "HANDLES"):
+            shutil.copy(f"{top}/{file}", room)
+        for name in sorted(needed):
+            os.makedirs(f"{room}/crates/{name}")
+            there = [f"{top}/crates/{name}/{it}" for it in PARTS if os.path.isdir(f"{top}/crates/{name}/{it}")]
+            subprocess.run(["cp", "-a", "--reflink=auto", *there, f"{room}/crates/{name}"], check=True)
+        listed = [it.line for it in crates_of(top) if it.name in needed]
+        with open(f"{room}/crates.txt", "w", encoding="utf-8") as it:
+            it.write("\n".join(listed) + "\n")
 
-    def note(self, words, folder, seconds):
-        self.took.seconds = getattr(self.took, "seconds", 0) + seconds
-
-    def edits_of(self, crate, asked):
-        """The crate's edits that are asked for: one is named NAME/EDIT, wherever it stands."""
-        parts = {it: f"{crate.folder}/{it}" for it in ("audit", "must-fail") if os.path.isdir(f"{crate.folder}/{it}")}
-        found = [Edit(f"{at}/{it}", crate) for at in parts.values() for it in sorted(os.listdir(at)) if it.endswith(".edit")]
-        is_whole = not asked.names or crate.name in asked.names
-        wanted = lambda it: is_whole and (asked.must_fail or "/audit/" in it.label)
-        return [it for it in found if wanted(it) or f"{crate.name}/{it.name}" in asked.names]
-
-    def library(self, crate):
-        """Has the crate's library in its place: as the gate proved it, or as a check built it in another checkout, or else it is built here."""
-        with self.building:
-            return crate.name in self.built or all(self.library(it) for it in crate.below()) and self.build(crate)
-
-    def build(self, crate):
-        stamp = f"{crate.folder}/out/rlib/stamp"
-        os.makedirs(os.path.dirname(stamp), exist_ok=True)
-        if self.kept.give(crate, False, self.kept.key(crate)):
-            with open(stamp, "w", encoding="utf-8") as it:
-                it.write(crate.stamp())
-        elif not self.rt.take_rlib(crate):
-            self.begin_with(crate, f"{crate.folder}/out/incremental")
-            if crate.build_rlib(["--jobs", "1"], anew=False):
-                return False
-        self.kept.is_built(crate)
-        self.built.add(crate.name)
-        return True
-
-    def begin_with(self, crate, to):
-        """Gives a check what an earlier one kept, where there is some."""
-        best = self.rt.work_for(crate)
-        try:
-            if best:
-                self.rt.linked(best, to)
-        except (OSError, shutil.Error):
-            # (another command may write what this one copies)
-            shutil.rmtree(to, ignore_errors=True)
-        os.makedirs(to, exist_ok=True)
-
-    def is_proved(self, crate):
-        """Whether an earlier run on this machine proved the crate as it stands."""
-        if self.kept.at and os.path.isdir(self.kept.place(crate, False, self.kept.key(crate))):
-            return True
-        return crate.stamp() in [said for _, said in self.rt.places_of(crate)]
-
-    def begin(self, crate, edits):
-        """Gives where the tries of a crate keep what they prove, or None where what they change isn't proved as it stands."""
-        at = f"{crate.folder}/out/audit"
-        self.begin_with(crate, at)
-        if self.is_proved(crate):
-            return at
-        ran = self.check(crate, {}, () if any(not it.functions for it in edits) else edits, at)
-        if ran.returncode:
-            print(ran.stdout[-2000:], file=sys.stderr)
-        return None if ran.returncode else at
-
-    def check(self, crate, texts, edits, at):
+    def check(self, crate, texts, edits):
         """Checks the crate with these texts: the functions that the edits change, or all of it where there are none."""
+        folder = f"{self.top}/crates/{crate.name}"
         names = dict.fromkeys(one.name for it in edits for one in it.functions)
-        flags = ["--jobs", "1", *(word for it in names for word in ("--only", it))]
-        for _ in range(2):
-            ran = self.rt.checked(crate, texts, flags, at)
-            # (else most likely for memory)
-            if ran.returncode != -signal.SIGKILL:
-                break
+        words = ["rt", "check", "--jobs", "1", *(word for it in names for word in ("--only", it))]
+        kept = {}
+        for path, text in texts.items():
+            with open(f"{folder}/{path}", encoding="utf-8") as it:
+                kept[path] = it.read()
+            write(f"{folder}/{path}", text)
+        try:
+            for _ in range(2):
+                ran = subprocess.run(words, cwd=folder, stdin=subprocess.DEVNULL, stdout=subprocess.PIPE, stderr=subprocess.STDOUT, text=True, errors="replace")
+                # (else most likely for memory)
+                if ran.returncode != -signal.SIGKILL:
+                    break
+        finally:
+            for path, text in kept.items():
+                write(f"{folder}/{path}", text)
         return ran
 
-    def attempt(self, crate, batch, at):
+    def begin(self, crate):
+        """Has the crate and those below it proved as they stand."""
+        ran = self.check(crate, {}, [])
+        if ran.returncode:
+            print(ran.stdout[-2000:], file=sys.stderr)
+        return not ran.returncode
+
+    def attempt(self, crate, batch):
         """What the edits of a list come to, by edit: they are tried in one check, and those of which it tells nothing alone."""
-        self.took.seconds = 0
         texts = texts_of(batch) if len(batch) > 1 else {}
         if not texts:
-            return {it: self.alone(crate, it, at) for it in batch}
-        ran = self.check(crate, texts, batch, at)
+            return {it: self.alone(crate, it) for it in batch}
+        ran = self.check(crate, texts, batch)
         self.keep(ran, [it.name for it in batch], crate)
-        seconds = self.took.seconds / len(batch)
         tried = {it: fall(ran, it) if ran.returncode == 1 else None for it in batch}
-        return {it: Try(*found, seconds) if found else self.alone(crate, it, at) for it, found in tried.items()}
+        return {it: Try(*found) if found else self.alone(crate, it) for it, found in tried.items()}
 
-    def alone(self, crate, edit, at):
+    def alone(self, crate, edit):
         """What one edit comes to. What is proved of its functions alone is tried once more of the whole crate."""
-        self.took.seconds = 0
-        texts, why = self.rt.read_edit(edit.path, crate.folder)
+        why = why_not(edit)
         if why:
-            return Try(UNKNOWN, why, 0)
+            return Try(UNKNOWN, why)
         for some in ([edit], []) if edit.functions else ([],):
-            ran = self.check(crate, texts, some, at)
+            ran = self.check(crate, texts_of([edit]), some)
             if ran.returncode and not (ran.returncode == 2 and NOT_FOUND.search(ran.stdout)):
                 break
         self.keep(ran, [edit.name], crate)
-        return Try(*self.sort_of(texts, ran), self.took.seconds)
+        return Try(*sort_of(ran))
 
     def keep(self, ran, names, crate):
         """Leaves what the prover said where it was asked for."""
         for name in names if self.said else ():
             os.makedirs(self.said, exist_ok=True)
-            with open(f"{self.said}/{crate.name}.{name}.txt", "w", encoding="utf-8") as it:
-                it.write(ran.stdout)
+            write(f"{self.said}/{crate.name}.{name}.txt", ran.stdout)
 
-    def sort_of(self, texts, ran):
-        """How a check of one edit refuses it, and by which line."""
-        lines = ran.stdout.rstrip("\n").split("\n")
-        if not ran.returncode:
-            return MISSED, "the crate is still proved"
-        bad = next((it for it in lines if REJECTED.search(it) or self.rt.unread(it, texts)), None)
-        if ran.returncode != 1 or bad:
-            return UNKNOWN, bad or lines[-1]
-        return first_of([it for it in lines if AT.match(it) and LEFT.search(it)]) or (UNKNOWN, lines[-1])
+    def tries_of(self, crate, edits, is_whole):
+        """What the edits of a crate come to: one list of them after another, each over what the ones before it kept."""
+        for it in edits if is_whole else ():
+            it.functions = []
+        if not self.begin(crate):
+            return dict.fromkeys(edits, Try(UNKNOWN, "it, or a crate below it, isn't proved as it stands"))
+        found = {}
+        for batch in batches_of(edits):
+            for it, tried in self.attempt(crate, batch).items():
+                say(f"{tried.sort}  {it.label}  {tried.said[:200]}")
+                found[it] = tried
+        return found
+
+
+def write(path, text):
+    with open(path, "w", encoding="utf-8") as it:
+        it.write(text)
+
+
+def sort_of(ran):
+    """How a check of one edit refuses it, and by which line."""
+    lines = ran.stdout.rstrip("\n").split("\n")
+    if not ran.returncode:
+        return MISSED, "the crate is still proved"
+    bad = next((it for it in lines if REJECTED.search(it) or UNREAD.search(it)), None)
+    if ran.returncode != 1 or bad:
+        return UNKNOWN, bad or lines[-1]
+    return first_of([it for it in lines if AT.match(it) and LEFT.search(it)]) or (UNKNOWN, lines[-1])
 
 
 def first_of(told):
@@ -187,49 +168,37 @@ def say(text):
     print(text, flush=True)
 
 
-def tries_of(audit, crate, edits, is_whole):
-    """What is to be done for a crate: its edits are tried one list after another, each over what the ones before it kept."""
-    for it in edits if is_whole else ():
-        it.functions = []
-    needs, first = audit.rt.need(crate), (crate.name, "seed")
-
-    def begin(given, jobs):
-        return audit.begin(crate, edits) if all(audit.library(it) for it in crate.below()) else None
-
-    def attempt(given, jobs, batch):
-        unproved = Try(UNKNOWN, "it, or a library below it, isn't proved as it stands", 0)
-        tried = audit.attempt(crate, batch, given[first]) if given[first] else dict.fromkeys(batch, unproved)
-        for it, found in tried.items():
-            say(f"{found.sort}  {it.label}  ({found.seconds:.0f} s)  {found.said[:200]}")
-        return tried
-
-    tasks, last = {first: ([], 0, needs, begin)}, first
-    for number, batch in enumerate(batches_of(edits)):
-        key = crate.name, "edits", number
-        tasks[key] = [last], 0, needs, lambda given, jobs, batch=batch: attempt(given, jobs, batch)
-        last = key
-    return tasks
+def edits_of(crate, asked):
+    """The crate's edits that are asked for: one is named NAME/EDIT, wherever it stands."""
+    found = [Edit(it, crate) for part in ("audit", "must-fail") for it in crate.edits(part)]
+    is_whole = not asked.names or crate.name in asked.names
+    wanted = lambda it: is_whole and (asked.must_fail or "/audit/" in it.label)
+    return [it for it in found if wanted(it) or f"{crate.name}/{it.name}" in asked.names]
 
 
-def tell_unapplied(rt, crates):
+def tell_unapplied(crates):
     """Says which edits of both folders can't be applied, and returns how many."""
-    found = 0
-    for crate in crates:
-        for part in ("audit", "must-fail"):
-            at = f"{crate.folder}/{part}"
-            for name in sorted(os.listdir(at)) if os.path.isdir(at) else ():
-                why = rt.read_edit(f"{at}/{name}", crate.folder)[1]
-                if why:
-                    say(f"{UNKNOWN}  {crate.name}/{part}/{name}: {why}")
-                    found += 1
-    return found
+    every = [Edit(path, it) for it in crates for part in ("audit", "must-fail") for path in it.edits(part)]
+    unapplied = [(it, why_not(it)) for it in every if why_not(it)]
+    for edit, why in unapplied:
+        say(f"{UNKNOWN}  {edit.label}: {why}")
+    return len(unapplied)
 
 
 def counts(tried):
-    """How many of the tries fell how, in words, and what they took."""
+    """How many of the tries fell how, in words."""
     found = collections.Counter(it.sort for it in tried)
     fell = ", ".join(f"{sort} {found[sort]}" for sort in SORTS if found[sort])
-    return f"{len(tried)} tried: {fell or 'none'} ({sum(it.seconds for it in tried):.0f} s)"
+    return f"{len(tried)} tried: {fell or 'none'}"
+
+
+def try_all(top, edits, asked):
+    """Tries the edits, crate by crate, RT_JOBS crates at once."""
+    jobs = int(os.environ.get("RT_JOBS", max(1, (os.cpu_count() or 1) // 2)))
+    with tempfile.TemporaryDirectory(prefix="audit-") as room, concurrent.futures.ThreadPoolExecutor(jobs) as pool:
+        audit = Audit(list(edits), top, room, asked.said)
+        runs = {crate: pool.submit(audit.tries_of, crate, found, asked.whole) for crate, found in edits.items()}
+        return {crate: list(it.result().values()) for crate, it in runs.items()}
 
 
 def main(words):
@@ -240,28 +209,21 @@ def main(words):
     reads.add_argument("names", nargs="*", metavar="NAME", help="a crate, or NAME/EDIT")
     reads.add_argument("--apply", action="store_true", help="try none: say which of both folders can't be applied")
     asked = reads.parse_args(words)
-    tried = {}
+    top = repository()
+    crates = crates_of(top)
     if asked.apply:
-        rt = toolchain.load()
-        return 1 if tell_unapplied(rt, toolchain.crates_of(rt, toolchain.repository())) else 0
-    with tempfile.TemporaryDirectory(prefix="audit-") as room:
-        audit = Audit(toolchain.load(), toolchain.repository(), room, asked.said)
-        tasks, lacking = {}, {*asked.names} - {it.name for it in audit.crates}
-        for crate in audit.crates:
-            edits = audit.edits_of(crate, asked)
-            lacking -= {f"{crate.name}/{it.name}" for it in edits}
-            tasks.update(tries_of(audit, crate, edits, asked.whole) if edits else {})
-        if not lacking:
-            for key, found in audit.rt.in_lanes(tasks).items():
-                if key[1] == "edits":
-                    tried.setdefault(key[0], []).extend(found.values())
-        os.chdir("/")
+        return 1 if tell_unapplied(crates) else 0
+    edits = {it: found for it in crates if (found := edits_of(it, asked))}
+    known = {it.name for it in crates}.union(f"{crate.name}/{it.name}" for crate, found in edits.items() for it in found)
+    lacking = {*asked.names} - known
     if lacking:
         sys.exit(f"audit: there is no {' '.join(sorted(lacking))}")
+    tried = try_all(top, edits, asked)
     for crate, found in tried.items():
-        say(f"{crate}: {counts(found)}")
+        say(f"{crate.name}: {counts(found)}")
     every = [it for found in tried.values() for it in found]
-    say(counts(every))
+    took = resource.getrusage(resource.RUSAGE_CHILDREN)
+    say(f"{counts(every)} ({took.ru_utime + took.ru_stime:.0f} processor seconds)")
     return 1 if any(it.sort in (MISSED, UNKNOWN) for it in every) else 0
 
 

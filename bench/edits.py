@@ -131,3 +131,13 @@ def texts_of(batch):
                 return None
             texts[file] = texts[file].replace(old, new)
     return texts
+
+
+def why_not(edit):
+    """Why an edit can't be applied, or nothing where it can: each old text stands in its file exactly once."""
+    for file, old, _ in edit.pairs:
+        if not os.path.isfile(f"{edit.crate.folder}/{file}"):
+            return f"there is no {file}"
+    if not edit.pairs:
+        return "it names no change"
+    return "" if texts_of([edit]) else "an old text doesn't stand in its file exactly once"

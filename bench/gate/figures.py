@@ -48,10 +48,9 @@ def standing(newest, crates):
 
 
 def has_part(crate, told):
-    """Whether a crate still has what was measured."""
-    folder = f"{crate.folder}/must-fail"
-    edits = {it.removesuffix(".edit") for it in os.listdir(folder)} if os.path.isdir(folder) else set()
-    return {TESTS: crate.has_tests(), SEED: bool(edits), EDITS: told.what in edits}.get(told.part, True)
+    """Whether a crate still has what was measured. Tries of wrong bodies are told by their numbers."""
+    edits = len(crate.edits("must-fail"))
+    return {TESTS: crate.has_tests(), SEED: edits > 0, EDITS: told.what.isdigit() and int(told.what) < edits}.get(told.part, True)
 
 
 def write(path, newest):

@@ -1,106 +1,139 @@
 """Runs the gate, and notes what each process that it starts takes."""
 import datetime
 import os
-import re
 import resource
+import subprocess
 import sys
-import threading
+import time
 
+sys.dont_write_bytecode = True
 sys.path.insert(0, os.path.dirname(os.path.dirname(os.path.realpath(__file__))))
-import toolchain
-
+from crates import crates_of, repository
 from figures import BUILDS, EDITS, OTHER, PROOF, SEED, TESTS, Figure, read, standing, text_sum, write
 from table import table_of
 
-# Which edit a thread of the gate tries.
-TRIED = threading.local()
+# How often the processes are looked at, in seconds: what one takes after it was last looked at counts as "all else".
+PAUSE = 0.25
+TICKS = os.sysconf("SC_CLK_TCK")
 
 
 def part_of(words, folder):
-    """Of which crate and part a process was, and which of its processes."""
+    """Of which crate and part a process is, and which of its processes; None where it is of none."""
     tool, verb = os.path.basename(words[0]), (words + [""])[1]
-    if tool == "rattle-link":
-        made = os.path.basename(words[words.index("-o") + 1])
-        name = os.path.basename(folder or "")
+    if tool == "rattle-link" and "-o" in words:
+        made, name = os.path.basename(words[words.index("-o") + 1]), os.path.basename(folder)
         return name, TESTS if made == f"{name}_tests" else BUILDS, "link"
     if tool != "rattle" or verb not in ("check", "build") or "--crate-name" not in words:
-        return "", OTHER, tool
-    name = words[words.index("--crate-name") + 1]
-    if getattr(TRIED, "edit", None):
-        return name, EDITS, TRIED.edit
-    if re.search(r"/rt-edit-\d+-", f"{folder}/"):
-        return name, SEED, verb
+        return None
+    behind = lambda word: words[words.index(word) + 1]
+    name = behind("--crate-name")
+    if "/rt-edit-" in f"{folder}/":
+        kept = os.path.basename(behind("--incremental")) if "--incremental" in words else "alone"
+        return (name, SEED, verb) if kept == "seed" else (name, EDITS, kept)
     if "--crate-checked" in words:
-        return name, BUILDS, words[words.index("--backend") + 1]
+        return name, BUILDS, behind("--backend")
     return name, TESTS if "--test" in words else PROOF, verb
+
+
+def bytes_of(path):
+    """What a file of /proc has, or nothing where its process has ended."""
+    try:
+        with open(path, "rb") as it:
+            return it.read()
+    except OSError:
+        return b""
+
+
+class Watch:
+    """The processes below one: of what part each is, and what it took so far itself."""
+
+    def __init__(self, root, note):
+        self.root, self.note, self.running, self.parts, self.noted = root, note, {}, {}, 0.0
+
+    def look(self):
+        """Looks at all of them once, and notes those that have ended since."""
+        parents, seen = {}, {}
+        for pid in filter(str.isdigit, os.listdir("/proc")):
+            fields = bytes_of(f"/proc/{pid}/stat").rpartition(b")")[2].split()
+            if fields:
+                # (its parent, when it began, and its user and system time)
+                parents[pid] = fields[1].decode(), fields[19], sum(map(int, fields[11:13])) / TICKS
+        for pid, (_, began, seconds) in parents.items():
+            below, part = self.place(pid, parents)
+            if below:
+                seen[pid, began] = part or self.running.get((pid, began), (None, 0))[0], seconds
+        for key in self.running.keys() - seen.keys():
+            self.end(*self.running[key])
+        self.running = seen
+
+    def place(self, pid, parents):
+        """Whether a process is below the one that is watched, and of what part: its own, or that of the nearest above it."""
+        part = None
+        while pid in parents and pid != self.root:
+            part = part or self.part(pid, parents[pid][1])
+            pid = parents[pid][0]
+        return pid == self.root, part
+
+    def part(self, pid, began):
+        """What its words say; a process may get others as it goes."""
+        if not self.parts.get((pid, began)):
+            words = bytes_of(f"/proc/{pid}/cmdline").decode(errors="replace").split("\0")[:-1]
+            try:
+                self.parts[pid, began] = part_of(words, os.readlink(f"/proc/{pid}/cwd")) if words else None
+            except OSError:
+                return None
+        return self.parts[pid, began]
+
+    def end(self, part, seconds):
+        if part:
+            self.noted += seconds
+            self.note(*part, seconds)
+
+    def follow(self, process):
+        """Looks until the process has ended; its exit status."""
+        while process.poll() is None:
+            self.look()
+            time.sleep(PAUSE)
+        for it in self.running.values():
+            self.end(*it)
+        return process.returncode
 
 
 class Timer:
     """Notes each process that ends, in the file of raw figures as it goes."""
 
-    def __init__(self, path, texts, is_whole):
-        self.path, self.texts, self.is_whole, self.lock = path, texts, is_whole, threading.Lock()
+    def __init__(self, path, texts):
+        self.path, self.texts = path, texts
         self.run = datetime.datetime.now().isoformat("T", "seconds")
         write(path, read(path))
 
-    def note(self, words, folder, seconds):
-        """Adds one line for a process that took so many seconds. What isn't of a crate counts for a gate of all crates alone."""
-        name, part, what = part_of(words, folder)
-        if not name and not self.is_whole:
-            return
+    def note(self, name, part, what, seconds):
         told = Figure(self.run, name, part, what, f"{seconds:.3f}", self.texts.get(name, ""))
-        with self.lock, open(self.path, "a", encoding="utf-8") as it:
+        with open(self.path, "a", encoding="utf-8") as it:
             it.write("\t".join(told) + "\n")
 
-    def end(self):
-        """Notes what the gate took itself, and writes the file in order."""
-        own = resource.getrusage(resource.RUSAGE_SELF)
-        self.note(["rt"], None, own.ru_utime + own.ru_stime)
-        write(self.path, read(self.path))
 
-
-def tell_edits(rt):
-    """Has each try of an edit tell its name to the timer."""
-    made = rt.must_fail
-
-    def must_fail(crate, edit, *given):
-        TRIED.edit = os.path.basename(edit).removesuffix(".edit")
-        try:
-            return made(crate, edit, *given)
-        finally:
-            TRIED.edit = None
-
-    rt.must_fail = must_fail
-
-
-def anew_for(rt, names):
-    """Has these crates proved, and their edits tried, though an earlier run kept what came of it; edits of no other."""
-    give, edits_of = rt.Kept.give, rt.edits_of
-    rt.Kept.give = lambda kept, crate, *given: crate.name not in names and give(kept, crate, *given)
-    rt.Kept.tried = lambda *_: None
-    rt.edits_of = lambda crate: edits_of(crate) if crate.name in names else ([], [])
+def run(words, timer):
+    """Runs the gate with these words, each process timed; what is of no crate is noted of a gate of all crates alone."""
+    before = resource.getrusage(resource.RUSAGE_CHILDREN)
+    process = subprocess.Popen(["rt", "ci", *words])
+    watch = Watch(str(process.pid), timer.note)
+    status = watch.follow(process)
+    after = resource.getrusage(resource.RUSAGE_CHILDREN)
+    whole = after.ru_utime + after.ru_stime - before.ru_utime - before.ru_stime
+    if all(it.startswith("-") for it in words):
+        timer.note("", OTHER, "rt", max(whole - watch.noted, 0.0))
+    write(timer.path, read(timer.path))
+    return status
 
 
 def main(words):
-    top = toolchain.repository()
+    top = repository()
     os.chdir(top)
     raw, page = f"{top}/bench/results/gate.tsv", f"{top}/bench/results/gate.md"
-    rt = toolchain.load()
-    crates = toolchain.crates_of(rt, top)
-    lines = {it.partition(":")[0].split()[0]: it for it in open(f"{top}/crates.txt", encoding="utf-8").read().splitlines() if ":" in it and not it.startswith("#")}
-    texts = {it.name: text_sum(top, it.name, lines[it.name]) for it in crates}
-    status = 0
-    if words != ["--table"]:
-        names = [it for it in words if not it.startswith("-")]
-        timer = Timer(raw, texts, is_whole=not names)
-        tell_edits(rt)
-        if names:
-            anew_for(rt, names)
-        toolchain.time_all(timer.note)
-        try:
-            status = rt.main(["ci", *words])
-        finally:
-            timer.end()
+    crates = crates_of(top)
+    texts = {it.name: text_sum(top, it.name, it.line) for it in crates}
+    status = run(words, Timer(raw, texts)) if words != ["--table"] else 0
     write(raw, standing(read(raw), crates))
     with open(page, "w", encoding="utf-8") as it:
         it.write(table_of(crates, read(raw), texts))

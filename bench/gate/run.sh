@@ -1,9 +1,8 @@
 #!/bin/sh
-# run.sh [--anew] [NAME..]: runs the gate, `rt ci`, as it is, and times each process that it starts: user and system seconds of its whole
-# tree, so that a machine with other work beside it says nearly the same. What an earlier run on this machine proved of the same files is
-# taken by the gate and not timed; --anew proves and tries all.
-#
-# With names, these crates alone are proved anew and their edits tried, on a copy, over the proofs that are kept of what is below them.
+# run.sh [--anew] [NAME..]: runs the gate, `rt ci`, with these words, and times each process that it starts: user and system seconds of its whole
+# tree, as the system tells them four times a second, so that a machine with other work beside it says nearly the same. Where the toolchain keeps
+# what an earlier run on this machine proved of the same files, the gate takes that, and it isn't timed; --anew proves and tries all. With names,
+# these crates and those below them are the gate's.
 #
 # run.sh --table: the table alone, of what was measured before.
 #
