@@ -1,5 +1,5 @@
 -- A run before its first line.
-use Rattle.std.proofs.Common.{◌≡◌, refl, sym, ap, ◌∙◌, subst, ℕ, zero, suc, ◌+◌, ◌≤◌, List, [], ◌∷◌, Option, Some, None, length, arith}
+use Rattle.std.proofs.Common.{◌≡◌, refl, sym, ap, ◌∙◌, subst, ℕ, zero, suc, ◌+◌, ◌≤◌, max, if◌then◌else◌, Bool, true, false, List, [], ◌∷◌, Option, Some, None, length, arith}
 use Rattle.std.specs.Prelude.{Contains, get_or, slice_get, All}
 use Rattle.std.proofs.lemmas.Option.{slice_get_within}
 use Rattle.std.specs.List.{AllByRecursion}
@@ -66,6 +66,11 @@ module _ (seat : SeatView) (none_kept : seat.node.replica.kept ≡ []) (none_sen
     given = λ _ free. (h.none_sent ∙ sym h.none_asked, subst (IsGiven [] seat.node.outbox.entries seat.node.replica.kept s) (sym h.none_sent) (none_given s));
   }
 
+-- a store that is down failed once
+struck : (d : Bool) (f : ℕ) → f ≡ (if d then 1 else 0) → 1 ≤ (if d then f else max f 1)
+struck true f counted = omega (arith, counted)
+struck false f counted = omega arith
+
 none_in : {X : Type 0} (x : X) → Contains [] x → ⊥
 none_in x h = omega (arith, h.1)
 
@@ -79,7 +84,7 @@ no_moment (suc p) = refl
 module _ (law : Law) (lines : List NamedLine) (looks : List (Option Looked)) (size : length looks ≡ length lines) (none : AllByRecursion (λ look. look ≡ None) looks) (meaning : Meaning) where
   module _ (nodes n : ℕ) (seat : SeatView) (desks : List Desk) (w : IsNewWorker (record law { may = Sends n law.may [] [] }) meaning nodes n seat desks) where
     kept : seat.node.replica.kept ≡ []
-    kept = w.waits.replica.nothing_waits
+    kept = w.waits.replica.fresh.nothing_waits
 
     known : (s : ℕ) (d : Desk) → slice_get desks s ≡ Some d → s ≤ 63
     known s d at = let low = slice_get_within desks s d at in omega (arith, low, w.desks_are.size)
@@ -87,7 +92,7 @@ module _ (law : Law) (lines : List NamedLine) (looks : List (Option Looked)) (si
     worker_ok : WorkerOk law meaning n [] seat desks
     worker_ok = record {
       who_is = w.waits.who_is;
-      origin = w.waits.replica.origin_is;
+      origin = w.waits.replica.fresh.origin_is;
       ok = seat_wider (record law { may = Sends n law.may [] [] }) (record law { may = Sends n law.may (sent_by desks) [] }) (record { may = λ user e k. sends_more n law.may [] (sent_by desks) [] (λ s. omega arith) user e k; floor = λ log m k. k; shelf = refl }) meaning [] seat w.waits.ok;
       packs = subst CanPack (sym kept) (record { each = λ k d low. absurd (omega (arith, low)); few = omega arith });
       waits = subst (All IsOfSession) (sym kept) (λ k d low. absurd (omega (arith, low)));
@@ -98,6 +103,7 @@ module _ (law : Law) (lines : List NamedLine) (looks : List (Option Looked)) (si
 
     has_not_begun : HasNotBegun seat desks
     has_not_begun = record {
+      struck = struck seat.node.replica.down seat.node.replica.faults w.waits.replica.counted;
       given = ap (λ (o : OutboxView). o.given) w.waits.outbox;
       quiet = quiet seat kept w.waits.outbox;
       asked = λ s d at. (w.desks_are.each s d at).none_asked;

@@ -1,5 +1,5 @@
 -- What a node is before a run.
-use Rattle.std.specs.Prelude.{◌≡◌, ℕ, ◌+◌, List, [], ◌∷◌, length, slice_get, Some, None}
+use Rattle.std.specs.Prelude.{◌≡◌, ℕ, ◌+◌, if◌then◌else◌, List, [], ◌∷◌, length, slice_get, Some, None}
 use Rattle.chain_map.specs.Chain.{first_chain}
 use Rattle.legal_journal.specs.Law.{Law}
 use Rattle.virtual_log.specs.Log as log
@@ -33,16 +33,21 @@ pub record AreDesksUpTo (count : ℕ) (desks : List Desk) : Type 0 where
 abbrev pub AreFreshDesks : List Desk → Type 0
 AreFreshDesks desks = AreDesksUpTo 64 desks
 
+-- a replica that has applied nothing; it is down just where a fault of its disk was counted: one
+pub record IsNewReplica (meaning : Meaning) (node : ℕ) (v : ReplicaView) : Type 0 where
+  pub fresh : IsFreshReplica meaning node v
+  pub counted : v.faults ≡ (if v.down then 1 else 0)
+
 -- replicas of the nodes from this number on
 abbrev pub AreFreshFrom : Meaning → ℕ → List ReplicaView → Type 0
 AreFreshFrom meaning n [] = Unit {0}
-AreFreshFrom meaning n (v ∷ vs) = IsFreshReplica meaning n v × AreFreshFrom meaning (n + 1) vs
+AreFreshFrom meaning n (v ∷ vs) = IsNewReplica meaning n v × AreFreshFrom meaning (n + 1) vs
 
 -- one of so many nodes that waits for its first turn: it has sent nothing, and may take the fabric before any event
 pub record IsNewSeat (law : Law) (meaning : Meaning) (nodes who : ℕ) (seat : SeatView) : Type 0 where
   pub who_is : seat.who ≡ who
   pub nodes_is : seat.node.nodes ≡ nodes
-  pub replica : IsFreshReplica meaning who seat.node.replica
+  pub replica : IsNewReplica meaning who seat.node.replica
   pub outbox : seat.node.outbox ≡ record { entries = []; given = []; unsettled = None }
   pub ok : SeatOk law meaning [] seat
 

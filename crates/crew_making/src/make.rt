@@ -10,8 +10,7 @@ ghost use Rattle.node_lines.specs.Workers.{Sends};
 ghost use Rattle.node_course.specs.Script.{AreLines};
 ghost use Rattle.node_crew.specs.Crews.{CrewRests, CrewStands};
 ghost use Rattle.crew_making.specs.Apart.{AreAsTold};
-ghost use Rattle.replica_api.specs.Fresh.{IsFreshReplica};
-ghost use Rattle.crew_making.specs.Fresh.{AreFreshFrom, AreFreshDesks, IsFreshLog, IsNewSeat, AreNewWorkers};
+ghost use Rattle.crew_making.specs.Fresh.{AreFreshFrom, AreFreshDesks, IsFreshLog, IsNewReplica, IsNewSeat, AreNewWorkers};
 
 use crate::berth::{Berth, leave_all, prepare_all};
 use crate::early::Early;
@@ -43,7 +42,7 @@ fn seat_within<K: Terms, Q: Scope, S: Replica, C: Chooser>(
     requires eight { nodes ≤ 8 }
     requires legal { IsLegal Q.law [] }
     requires log { IsFreshLog (length Q.law.shelf) log }
-    requires fresh { IsFreshReplica S.meaning who (S.shows replica) }
+    requires fresh { IsNewReplica S.meaning who (S.shows replica) }
     ensures seat { IsNewSeat Q.law S.meaning nodes who result }
     ensures replica { result.node.replica ≡ S.shows replica }
 {
@@ -112,7 +111,7 @@ pub fn make_crew<L: Loglet, R: Register, K: Terms, S: Replica, C: Chooser>(
     requires sound { All (λ l. IsSound (L.view l)) cells.items }
     requires register { view.IsFresh (R.view register) }
     requires eight { length nodes.old.items ≤ 8 }
-    requires nodes { (j : ℕ) (n : OpenNode S C) → slice_get nodes.old.items j ≡ Some n → IsFreshReplica S.meaning (j + 1) (S.shows n.replica) }
+    requires nodes { (j : ℕ) (n : OpenNode S C) → slice_get nodes.old.items j ≡ Some n → IsNewReplica S.meaning (j + 1) (S.shows n.replica) }
     requires lines { (home : ℕ → ℕ) × AreLines lines.now home (length nodes.old.items) }
     ensures rests { IfOk result (λ crew. CrewRests K.law S.meaning lines.now 0 0 crew.fabric.journal crew.looks.items (λ w. w.seat) (λ w. w.desks.items) crew.workers.items) }
     ensures stands { IfOk result (λ crew. CrewStands K.law S.meaning crew.fabric.journal (λ w. w.seat) crew.workers.items) }

@@ -11,7 +11,7 @@ ghost use Rattle.node_lines.specs.Workers.{MayRun};
 ghost use Rattle.run_ends.specs.Rules.{may_of};
 ghost use Rattle.node_course.specs.Script.{AreLines};
 ghost use Rattle.node_crew.specs.Turns.{MaySendAll};
-ghost use Rattle.replica_api.specs.Fresh.{IsFreshReplica};
+ghost use Rattle.crew_making.specs.Fresh.{IsNewReplica};
 ghost use Rattle.crew_run.specs.Running.{RunTold};
 
 use crate::tell::tell;
@@ -75,7 +75,7 @@ fn run_by<
     requires sound { All (λ l. IsSound (L.view l)) cells.items }
     requires register { view.IsFresh (R.view register) }
     requires eight { length nodes.items ≤ 8 }
-    requires nodes { (j : ℕ) (n : OpenNode S C) → slice_get nodes.items j ≡ Some n → IsFreshReplica S.meaning (j + 1) (S.shows n.replica) }
+    requires nodes { (j : ℕ) (n : OpenNode S C) → slice_get nodes.items j ≡ Some n → IsNewReplica S.meaning (j + 1) (S.shows n.replica) }
     requires lines { (home : ℕ → ℕ) × AreLines lines.now home (length nodes.items) }
     ensures told { IfOk result.told (RunTold lines.now (record { cells = map L.view result.cells.items; register = R.view result.register; disks = map (λ n. (S.shows n.replica).faults) result.nodes.items })) }
     ensures size { length result.nodes.items ≡ length nodes.items }
@@ -142,7 +142,7 @@ pub fn run_lines<
     requires fresh { All (λ l. IsFresh (L.view l)) cells.items }
     requires register { view.IsFresh (R.view register) }
     requires eight { length nodes.items ≤ 8 }
-    requires nodes { (j : ℕ) (n : OpenNode S C) → slice_get nodes.items j ≡ Some n → IsFreshReplica S.meaning (j + 1) (S.shows n.replica) }
+    requires nodes { (j : ℕ) (n : OpenNode S C) → slice_get nodes.items j ≡ Some n → IsNewReplica S.meaning (j + 1) (S.shows n.replica) }
     requires lines { (home : ℕ → ℕ) × AreLines lines.now home (length nodes.items) }
     requires spelled { AllByRecursion (λ l. CanLog l.asks) lines.now }
 

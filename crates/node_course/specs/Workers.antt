@@ -13,7 +13,7 @@ use Rattle.fitting_run.specs.Faults.{lacks_store}
 use Rattle.turn_scopes.specs.Seats.{SeatView, node_of}
 use Rattle.node_lines.specs.declared.desk.Desk.{Desk}
 use Rattle.node_lines.specs.declared.lines.Looked.{Looked}
-use Rattle.node_lines.specs.Moving.{IsQuiet}
+use Rattle.node_lines.specs.Moving.{IsQuiet, strikes}
 use Rattle.node_lines.specs.Workers.{HasNotLeft, IsHome, ReportsUpTo, WorkerOk}
 use Rattle.run_laws.specs.Ended.{CameTo, most_faults}
 use Rattle.node_course.specs.Script.{asked_by, failed_looks}
@@ -41,8 +41,8 @@ pub record NodeAt (law : Law) (meaning : Meaning) (lines : List NamedLine) (home
   pub played : (i : ℕ) (l : NamedLine) → i < at → slice_get lines i ≡ Some l → l.node ≡ n → PlayedSo lines c done seat.node.replica.cursor n desks looks i l.phase l.asks
   -- it reported no more than it has applied
   pub reports : ReportsUpTo n seat.node.replica.cursor c.seen
-  -- each fault of its store was counted
-  pub stores : min (failed_looks (lacks_store n) lines looks + count_by (λ f. lacks_store n f.node f.cause) c.faults) most_faults ≤ min seat.node.replica.faults most_faults
+  -- its store's count began at 1, and rose by each fault
+  pub stores : min (failed_looks (lacks_store n) lines looks + count_by (λ f. lacks_store n f.node f.cause) c.faults + 1) most_faults ≤ min (strikes seat.node.replica) most_faults
 
 -- It waits between two phases, the lines of the next one beginning at `from`.
 pub record Rests (law : Law) (meaning : Meaning) (lines : List NamedLine) (home : ℕ → ℕ) (nodes : ℕ) (c : NodeCourse) (looks : List (Option Looked)) (n from done : ℕ) (seat : SeatView) (desks : List Desk) : Type 0 where
@@ -51,6 +51,8 @@ pub record Rests (law : Law) (meaning : Meaning) (lines : List NamedLine) (home 
 
 -- Nothing was asked at the node, and nothing is on its way there.
 pub record HasNotBegun (seat : SeatView) (desks : List Desk) : Type 0 where
+  -- a store that is down failed
+  pub struck : 1 ≤ strikes seat.node.replica
   pub given : seat.node.outbox.given ≡ []
   pub quiet : (s : ℕ) → IsQuiet (node_of seat []) s
   pub asked : (s : ℕ) (d : Desk) → slice_get desks s ≡ Some d → d.asked ≡ 0

@@ -22,9 +22,9 @@ use Rattle.base_engine.specs.Node.{NodeView, Keeps}
 use Rattle.node_lines.specs.UnderWay.{IsGiven, rank_under, ranks_in}
 use Rattle.node_lines.proofs.Settling.{Extends, settled_given, none-front}
 use Rattle.node_lines.proofs.Queueing.{flushed_given, sent_given, sent_other}
-use Rattle.node_lines.specs.Moving.{Spends, CanPack, causes_of, Goes, StaysGiven, HasNoneOf, IsQuiet, Moves, HandsIn}
+use Rattle.node_lines.specs.Moving.{Spends, strikes, CanPack, causes_of, Goes, StaysGiven, HasNoneOf, IsQuiet, Moves, HandsIn}
 use Rattle.node_lines.proofs.Quiet.{IsStill, settled_still, flushed_still, sent_still}
-use Rattle.node_lines.proofs.Spending.{spends-none, spends-both, spends-settled, spends-permuted, shuffled}
+use Rattle.node_lines.proofs.Spending.{spends-none, spends-both, spends-settled, spends-permuted, shuffled, strikes-same}
 
 given_of : (mid : OutboxView) (p : Option Entry) → (with_entry mid p).given ≡ mid.given
 given_of mid None = refl
@@ -66,22 +66,22 @@ module _ (law : Law) (low : (log : List Entry) (n : ℕ) → law.floor log n →
   extends-of old new k = (k.later.more, k.later.seen)
 
   -- entries were settled, and then what is outstanding changed alone
-  goes-settled : (old new : NodeView) (mid : OutboxView) → Keeps law old new → (h : Settled Holds old.who old.seen old.outbox new.seen mid) → new.outbox.given ≡ mid.given
+  goes-settled : (old new : NodeView) (mid : OutboxView) → Keeps law old new → strikes old.replica ≤ strikes new.replica → (h : Settled Holds old.who old.seen old.outbox new.seen mid) → new.outbox.given ≡ mid.given
       → (CanPack old.replica.kept → CanPack new.replica.kept) → Goes law old new []
-  goes-settled old new mid k h same packs = record {
+  goes-settled old new mid k low_count h same packs = record {
     keeps = k;
     given = h.given;
     gained = same ∙ h.gained;
-    spends = spends-both old.who old.seen new.seen new.seen old.replica.faults old.replica.faults new.replica.faults (map (λ g. g.cause) h.given) []
-        (spends-settled old.who old.seen new.seen old.outbox mid old.replica.faults h)
-        (spends-none old.who new.seen new.seen old.replica.faults new.replica.faults ([], sym (append-nil new.seen)) k.counts);
+    spends = spends-both old.who old.seen new.seen new.seen (strikes old.replica) (strikes old.replica) (strikes new.replica) (map (λ g. g.cause) h.given) []
+        (spends-settled old.who old.seen new.seen old.outbox mid (strikes old.replica) h)
+        (spends-none old.who new.seen new.seen (strikes old.replica) (strikes new.replica) ([], sym (append-nil new.seen)) low_count);
     packs = packs;
   }
 
-  pub moves-pack : (old new : NodeView) → CanPack old.replica.kept → Keeps law old new
+  pub moves-pack : (old new : NodeView) → CanPack old.replica.kept → Keeps law old new → strikes old.replica ≤ strikes new.replica
       → Sent Holds old.who old.seen old.outbox (λ packed. Flushes old.replica.origin old.replica.kept packed new.replica.kept) new.seen new.outbox → Moves law old new []
-  moves-pack old new can k h = record {
-    goes = goes-settled old new h.mid k h.settled (ap (λ (o : OutboxView). o.given) h.is_with ∙ given_of h.mid h.packed) (packs-flushed old.replica.origin old.replica.kept new.replica.kept h.packed h.out);
+  moves-pack old new can k low_count h = record {
+    goes = goes-settled old new h.mid k low_count h.settled (ap (λ (o : OutboxView). o.given) h.is_with ∙ given_of h.mid h.packed) (packs-flushed old.replica.origin old.replica.kept new.replica.kept h.packed h.out);
     stays = λ s sent none g. flushed_given law low old.who old.replica.origin s sent old.seen new.seen old.outbox new.outbox old.replica.kept new.replica.kept k.later.legal none can.each can.few h g;
     quiet = λ s q. quiet_in new s (flushed_still old.who old.replica.origin s old.seen new.seen old.outbox new.outbox old.replica.kept new.replica.kept can.each can.few h (still_in old s q));
   }
@@ -89,7 +89,7 @@ module _ (law : Law) (low : (log : List Entry) (n : ℕ) → law.floor log n →
   pub moves-settle : (old new : NodeView) (cause : Option Cause) → Keeps law old new → new.replica ≡ old.replica
       → Settled Holds old.who old.seen old.outbox new.seen (record { entries = new.outbox.entries; given = new.outbox.given; unsettled = cause }) → Moves law old new []
   moves-settle old new cause k same h = record {
-    goes = goes-settled old new (record { entries = new.outbox.entries; given = new.outbox.given; unsettled = cause }) k h refl (λ c. subst (λ r. CanPack r.kept) (sym same) c);
+    goes = goes-settled old new (record { entries = new.outbox.entries; given = new.outbox.given; unsettled = cause }) k (strikes-same old.replica new.replica same) h refl (λ c. subst (λ r. CanPack r.kept) (sym same) c);
     stays = λ s sent none g. subst (λ r. IsGiven new.seen new.outbox.entries r.kept s sent) (sym same)
         (settled_given law low old.who s sent old.seen new.seen old.outbox (record { entries = new.outbox.entries; given = new.outbox.given; unsettled = cause }) old.replica.kept k.later.legal none h g);
     quiet = λ s q.
@@ -110,7 +110,7 @@ module _ (law : Law) (low : (log : List Entry) (n : ℕ) → law.floor log n →
   }
 
   pub moves-sync : (old new : NodeView) (others : List Cause) → Keeps law old new → new.outbox ≡ old.outbox → new.replica.kept ≡ old.replica.kept
-      → Spends old.who old.seen new.seen old.replica.faults new.replica.faults others → Moves law old new others
+      → Spends old.who old.seen new.seen (strikes old.replica) (strikes new.replica) others → Moves law old new others
   moves-sync old new others k same kept spends = record {
     goes = record {
       keeps = k;
@@ -136,10 +136,10 @@ module _ (law : Law) (low : (log : List Entry) (n : ℕ) → law.floor log n →
   packs-queued origin kept kept' item None fine h c = record { each = subst (λ k. All IsProposable k) (sym h.0) (all-more kept item c.each fine); few = h.1 }
   packs-queued origin kept kept' item (Some e) fine h c = subst CanPack (sym h.2) (record { each = All-nil IsProposable; few = omega arith })
 
-  pub hands-in : (old new : NodeView) (item : Item) (s sent : ℕ) → CanPack old.replica.kept → IsProposable item → Keeps law old new → rank_under s (content_of item) ≡ Some (sent + 1)
+  pub hands-in : (old new : NodeView) (item : Item) (s sent : ℕ) → CanPack old.replica.kept → IsProposable item → Keeps law old new → strikes old.replica ≤ strikes new.replica → rank_under s (content_of item) ≡ Some (sent + 1)
       → Sent Holds old.who old.seen old.outbox (λ packed. Queues old.replica.origin old.replica.kept item packed new.replica.kept) new.seen new.outbox → HandsIn law old new s sent
-  hands-in old new item s sent can fine k own h = record {
-    goes = goes-settled old new h.mid k h.settled (ap (λ (o : OutboxView). o.given) h.is_with ∙ given_of h.mid h.packed) (packs-queued old.replica.origin old.replica.kept new.replica.kept item h.packed fine h.out);
+  hands-in old new item s sent can fine k low_count own h = record {
+    goes = goes-settled old new h.mid k low_count h.settled (ap (λ (o : OutboxView). o.given) h.is_with ∙ given_of h.mid h.packed) (packs-queued old.replica.origin old.replica.kept new.replica.kept item h.packed fine h.out);
     own = λ none g. sent_given law low old.who old.replica.origin s sent old.seen new.seen old.outbox new.outbox old.replica.kept new.replica.kept item k.later.legal none can.each fine own h g;
     stays = λ t other n none g. sent_other law low old.who old.replica.origin t n old.seen new.seen old.outbox new.outbox old.replica.kept new.replica.kept item k.later.legal none can.each fine
         (rank_elsewhere s t (sent + 1) (content_of item) own other) h g;
@@ -148,10 +148,10 @@ module _ (law : Law) (low : (log : List Entry) (n : ℕ) → law.floor log n →
   }
 
   -- an item of no session goes down
-  pub moves-plain : (old new : NodeView) (item : Item) → CanPack old.replica.kept → IsProposable item → Keeps law old new → ((s : ℕ) → rank_under s (content_of item) ≡ None)
+  pub moves-plain : (old new : NodeView) (item : Item) → CanPack old.replica.kept → IsProposable item → Keeps law old new → strikes old.replica ≤ strikes new.replica → ((s : ℕ) → rank_under s (content_of item) ≡ None)
       → Sent Holds old.who old.seen old.outbox (λ packed. Queues old.replica.origin old.replica.kept item packed new.replica.kept) new.seen new.outbox → Moves law old new []
-  moves-plain old new item can fine k none h = record {
-    goes = goes-settled old new h.mid k h.settled (ap (λ (o : OutboxView). o.given) h.is_with ∙ given_of h.mid h.packed) (packs-queued old.replica.origin old.replica.kept new.replica.kept item h.packed fine h.out);
+  moves-plain old new item can fine k low_count none h = record {
+    goes = goes-settled old new h.mid k low_count h.settled (ap (λ (o : OutboxView). o.given) h.is_with ∙ given_of h.mid h.packed) (packs-queued old.replica.origin old.replica.kept new.replica.kept item h.packed fine h.out);
     stays = λ s sent free g. sent_other law low old.who old.replica.origin s sent old.seen new.seen old.outbox new.outbox old.replica.kept new.replica.kept item k.later.legal free can.each fine (none s) h g;
     quiet = λ s q. quiet_in new s (sent_still old.who old.replica.origin s old.seen new.seen old.outbox new.outbox old.replica.kept new.replica.kept item can.each fine (none s) h (still_in old s q));
   }
@@ -173,13 +173,13 @@ module _ (law : Law) (low : (log : List Entry) (n : ℕ) → law.floor log n →
     keeps = keeps-both old mid new h.keeps k.keeps;
     given = h.given ++ k.given;
     gained = k.gained ∙ ap (λ l. l ++ k.given) h.gained ∙ append_assoc old.outbox.given h.given k.given;
-    spends = subst (λ cs. Spends old.who old.seen new.seen old.replica.faults new.replica.faults (cs ++ (others ++ more))) (sym (map-append (λ (g : Given). g.cause) h.given k.given))
-        (spends-permuted old.who old.seen new.seen old.replica.faults new.replica.faults
+    spends = subst (λ cs. Spends old.who old.seen new.seen (strikes old.replica) (strikes new.replica) (cs ++ (others ++ more))) (sym (map-append (λ (g : Given). g.cause) h.given k.given))
+        (spends-permuted old.who old.seen new.seen (strikes old.replica) (strikes new.replica)
         (causes_of h.given others ++ causes_of k.given more)
         ((map (λ g. g.cause) h.given ++ map (λ g. g.cause) k.given) ++ (others ++ more))
         (λ P. sym (shuffled P (map (λ g. g.cause) h.given) (map (λ g. g.cause) k.given) others more))
-        (spends-both old.who old.seen mid.seen new.seen old.replica.faults mid.replica.faults new.replica.faults (causes_of h.given others) (causes_of k.given more) h.spends
-        (subst (λ w. Spends w mid.seen new.seen mid.replica.faults new.replica.faults (causes_of k.given more)) h.keeps.who k.spends)));
+        (spends-both old.who old.seen mid.seen new.seen (strikes old.replica) (strikes mid.replica) (strikes new.replica) (causes_of h.given others) (causes_of k.given more) h.spends
+        (subst (λ w. Spends w mid.seen new.seen (strikes mid.replica) (strikes new.replica) (causes_of k.given more)) h.keeps.who k.spends)));
     packs = λ c. k.packs (h.packs c);
   }
 
@@ -200,4 +200,4 @@ module _ (law : Law) (low : (log : List Entry) (n : ℕ) → law.floor log n →
   -- nothing was done
   pub moves-none : (n : NodeView) → IsLegal law n.seen → Moves law n n []
   moves-none n legal = moves-sync n n [] (record { who = refl; nodes = refl; origin = refl; later = record { more = []; seen = sym (append-nil n.seen); legal = legal }; forward = omega arith; counts = omega arith }) refl refl
-      (spends-none n.who n.seen n.seen n.replica.faults n.replica.faults ([], sym (append-nil n.seen)) (omega arith))
+      (spends-none n.who n.seen n.seen (strikes n.replica) (strikes n.replica) ([], sym (append-nil n.seen)) (omega arith))

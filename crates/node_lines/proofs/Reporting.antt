@@ -25,10 +25,10 @@ use Rattle.base_engine.specs.Proposing.{Sent, with_entry, IsNear, IsNearAt}
 use Rattle.base_engine.specs.Node.{NodeView, Keeps}
 use Rattle.node_lines.specs.UnderWay.{rank_under}
 use Rattle.node_lines.proofs.Settling.{Extends}
-use Rattle.node_lines.specs.Moving.{CanPack, Goes, Moves}
+use Rattle.node_lines.specs.Moving.{CanPack, Goes, Moves, strikes}
 use Rattle.node_lines.specs.Reporting.{IsPlain, LaysDown, IsAppendedWithin, Tells}
 use Rattle.node_lines.proofs.Moving.{moves-both, moves-settle}
-use Rattle.node_lines.proofs.Spending.{spends-none, spends-both, spends-event}
+use Rattle.node_lines.proofs.Spending.{spends-none, spends-both, spends-event, strikes-same}
 use Rattle.node_lines.proofs.Ending.{all}
 
 -- An item of no session
@@ -184,9 +184,9 @@ module _ (law : Law) (low : (log : List Entry) (n : ℕ) → law.floor log n →
         keeps = k;
         given = [];
         gained = gained ∙ ap (λ l. old.outbox.given ++ l) (ap (λ ss. given_to ss x) silent);
-        spends = spends-both old.who old.seen m.mid new.seen old.replica.faults old.replica.faults new.replica.faults (cause ∷ []) []
-            (spends-event old.who old.seen m.mid cause old.replica.faults old.replica.faults (omega arith) (subst (λ c. HasEventOf old.who old.seen c m.mid) (same_cause cause x says) met))
-            (spends-none old.who m.mid new.seen old.replica.faults new.replica.faults m.on k.counts);
+        spends = spends-both old.who old.seen m.mid new.seen (strikes old.replica) (strikes old.replica) (strikes new.replica) (cause ∷ []) []
+            (spends-event old.who old.seen m.mid cause (strikes old.replica) (strikes old.replica) (omega arith) (subst (λ c. HasEventOf old.who old.seen c m.mid) (same_cause cause x says) met))
+            (spends-none old.who m.mid new.seen (strikes old.replica) (strikes new.replica) m.on (strikes-same old.replica new.replica same));
         packs = plain.goes.packs;
       }
 

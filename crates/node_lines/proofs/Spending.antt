@@ -1,6 +1,6 @@
 -- Faults came each of its own.
-use Rattle.std.proofs.Common.{◌≡◌, refl, sym, ap, ◌∙◌, subst, inl, inr, ℕ, ◌+◌, ◌≤◌, cond, Bool, true, false, List, [], ◌∷◌, ◌++◌, Option, Some, map, arith, append_assoc, append-nil}
-use Rattle.std.specs.Prelude.{count_by, ◌==◌}
+use Rattle.std.proofs.Common.{◌≡◌, refl, sym, ap, ◌∙◌, subst, ◌⊎◌, inl, inr, ℕ, ◌+◌, ◌≤◌, max, if◌then◌else◌, cond, Bool, true, false, List, [], ◌∷◌, ◌++◌, Option, Some, map, arith, append_assoc, append-nil}
+use Rattle.std.specs.Prelude.{count_by, min, ◌^◌, ◌-◌, ◌==◌}
 use Rattle.std.proofs.lemmas.Bool.Decides.{nat_tests}
 use Rattle.std.proofs.lemmas.List.{map-append}
 use Rattle.std.proofs.lemmas.List.Sums.{sum_by-append}
@@ -10,6 +10,7 @@ use Rattle.delos_types.specs.declared.cause.Cause.{Cause}
 use Rattle.delos_types.specs.declared.cause.Cause.TheVariants as cause
 use Rattle.loglet_api.specs.declared.call.Answer.TheVariants as answers
 use Rattle.disk_model.specs.Disk.{Rose}
+use Rattle.replica_api.specs.Replica.{ReplicaView}
 use Rattle.legal_journal.specs.declared.events.Event.{Event}
 use Rattle.legal_journal.specs.declared.events.FabricCall.{FabricCall}
 use Rattle.legal_journal.specs.declared.events.FabricCall.TheVariants.{Begin, Carry}
@@ -18,6 +19,7 @@ use Rattle.legal_journal.specs.declared.events.FabricAnswer.TheVariants as fabri
 use Rattle.virtual_log.specs.Causes.{IsLack, IsFullOf, IsMetaFault}
 use Rattle.virtual_log.specs.Holding.{Holds}
 use Rattle.base_engine.specs.declared.fault.Fault.TheVariants.{Because}
+use Rattle.base_engine.specs.Arming.{FailsTwice, StoreTwice}
 use Rattle.base_engine.specs.declared.outbox.Given.{Given}
 use Rattle.base_engine.specs.Causes.{HasEventOf, Blames}
 use Rattle.base_engine.specs.Settling.{Fate, Landed, Lost, Meets, Settles, Settled, gives, given_to, sessions_in, OutboxView}
@@ -25,7 +27,7 @@ use Rattle.base_engine.specs.Settling as settling
 use Rattle.node_lines.proofs.Settling.{Extends}
 use Rattle.journal_laws.specs.Faults.{fault_of, faults_in}
 use Rattle.journal_laws.specs.Own.{own, faults_of}
-use Rattle.node_lines.specs.Moving.{is_store, Rises, Spends}
+use Rattle.node_lines.specs.Moving.{is_store, Rises, Spends, strikes}
 
 count_by-append : {A : Type 0} (p : A → Bool) (xs ys : List A) → count_by p (xs ++ ys) ≡ count_by p xs + count_by p ys
 count_by-append p xs ys = sum_by-append (λ x. cond (p x) 1 0) xs ys
@@ -75,12 +77,41 @@ all-events {who} h P none = omega (arith, h.events P none, own-faults who P h.mo
 rises-none : (a b : ℕ) → a ≤ b → Rises 0 a b
 rises-none a b h = omega (arith, h)
 
-rises-one : (a b : ℕ) → a ≤ b → Rose a b → Rises 1 a b
-rises-one a b low (inl h) = omega (arith, h)
-rises-one a b low (inr h) = omega (arith, h, low)
-
 rises-both : (n m a b c : ℕ) → Rises n a b → Rises m b c → Rises (n + m) a c
 rises-both n m a b c h k = omega (arith, h, k)
+
+-- it goes down by a fault alone
+strikes-low : (d d' : Bool) (f f' : ℕ) → f ≤ f' → (d' ≡ true → (d ≡ true) ⊎ Rose f f') → (if d then f else max f 1) ≤ (if d' then f' else max f' 1)
+strikes-low true true f f' low falls = low
+strikes-low true false f f' low falls = omega (arith, low)
+strikes-low false false f f' low falls = omega (arith, low)
+strikes-low false true f f' low falls = elim (falls refl) [
+  | inl was ↦ absurd (let no : false ≡ true = was in cc)
+  | inr (inl more) ↦ omega (arith, more)
+  | inr (inr most) ↦ omega (arith, most, low)
+]
+
+pub strikes-stay : (old new : ReplicaView) → old.faults ≤ new.faults → (new.down ≡ true → (old.down ≡ true) ⊎ Rose old.faults new.faults) → strikes old ≤ strikes new
+strikes-stay old new low falls = strikes-low old.down new.down old.faults new.faults low falls
+
+pub strikes-same : (old new : ReplicaView) → new ≡ old → strikes old ≤ strikes new
+strikes-same old new same = let s = ap strikes same in omega (arith, s)
+
+pub strikes-kept : (old new : ReplicaView) → new ≡ record old { kept = new.kept } → strikes old ≤ strikes new
+strikes-kept old new same = let s : strikes new ≡ strikes old = ap strikes same in omega (arith, s)
+
+-- a store that is a cause fails twice, or once more
+strikes-one : (d d' : Bool) (f f' : ℕ) → (min (f + 2) (2 ^ 64 - 1) ≤ f') ⊎ ((d ≡ true) × (min (f + 1) (2 ^ 64 - 1) ≤ f')) → Rises 1 (if d then f else max f 1) (if d' then f' else max f' 1)
+strikes-one true true f f' (inl h) = omega (arith, h)
+strikes-one true false f f' (inl h) = omega (arith, h)
+strikes-one false true f f' (inl h) = omega (arith, h)
+strikes-one false false f f' (inl h) = omega (arith, h)
+strikes-one true true f f' (inr h) = let more = h.1 in omega (arith, more)
+strikes-one true false f f' (inr h) = let more = h.1 in omega (arith, more)
+strikes-one false d' f f' (inr h) = absurd (let no : false ≡ true = h.0 in cc)
+
+strikes-rise : (old new : ReplicaView) → FailsTwice old new → Rises 1 (strikes old) (strikes new)
+strikes-rise old new h = strikes-one old.down new.down old.faults new.faults h
 
 -- Events that tell a cause
 
@@ -136,16 +167,28 @@ spends-event who old new cause.Meta a b low h = one-event who old h.before h.aft
 spends-event who old new cause.Store a b low h = absurd h
 
 -- a sync that failed came across its cause
-pub spends-blames : (who : ℕ) (old new : List Event) (c : Cause) (a b : ℕ) → Extends old new → a ≤ b → Blames who old a (Because c) new b → Spends who old new a b (c ∷ [])
-spends-blames who old new (cause.NoQuorum id u) a b on low h = spends-event who old new (cause.NoQuorum id u) a b low h
-spends-blames who old new (cause.Full id) a b on low h = spends-event who old new (cause.Full id) a b low h
-spends-blames who old new cause.Meta a b on low h = spends-event who old new cause.Meta a b low h
-spends-blames who old new cause.Store a b on low h = record {
+pub spends-blames : (who : ℕ) (old new : List Event) (c : Cause) (a b : ReplicaView) → Extends old new → strikes a ≤ strikes b → Blames who old a.faults (Because c) new b.faults → StoreTwice a (Because c) b → Spends who old new (strikes a) (strikes b) (c ∷ [])
+spends-blames who old new (cause.NoQuorum id u) a b on low h twice = spends-event who old new (cause.NoQuorum id u) (strikes a) (strikes b) low h
+spends-blames who old new (cause.Full id) a b on low h twice = spends-event who old new (cause.Full id) (strikes a) (strikes b) low h
+spends-blames who old new cause.Meta a b on low h twice = spends-event who old new cause.Meta (strikes a) (strikes b) low h
+spends-blames who old new cause.Store a b on low h twice = record {
   more = on.0;
   seen = on.1;
   events = λ P none. let k = count_by-cons P cause.Store [] in let z : cond (P cause.Store) 1 0 ≡ 0 = ap {B = ℕ} (λ x. cond x 1 0) none in omega (arith, k, z);
-  disk = rises-one a b low h;
+  disk = strikes-rise a b (twice refl);
 }
+
+-- a cause of the store of a replica that is as it was came where its count of faults is at its end
+pub twice-same : (who : ℕ) (old new : List Event) (c : Cause) (a b : ReplicaView) → b ≡ a → Blames who old a.faults (Because c) new b.faults → StoreTwice a (Because c) b
+twice-same who old new (cause.NoQuorum id u) a b same h = λ is. absurd (cc)
+twice-same who old new (cause.Full id) a b same h = λ is. absurd (cc)
+twice-same who old new cause.Meta a b same h = λ is. absurd (cc)
+twice-same who old new cause.Store a b same h = λ is.
+    let faults = ap (λ (r : ReplicaView). r.faults) same in
+    elim h [
+      | inl more ↦ absurd (omega (arith, more, faults))
+      | inr most ↦ inl (omega (arith, most, faults))
+    ]
 
 -- an entry meets its fate at a later moment
 meets-extends : (who : ℕ) (old new : List Event) (e : Entry) (f : Fate) → Meets Holds who old e f new → Extends old new

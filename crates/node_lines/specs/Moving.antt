@@ -1,5 +1,5 @@
 -- What a call of a node keeps of all its sessions, and which faults it came across.
-use Rattle.std.specs.Prelude.{◌≡◌, ℕ, ◌+◌, ◌^◌, ◌-◌, ◌≤◌, min, Bool, true, false, ◌==◌, List, [], ◌∷◌, ◌++◌, length, map, count_by, All, None}
+use Rattle.std.specs.Prelude.{◌≡◌, ℕ, ◌+◌, ◌^◌, ◌-◌, ◌≤◌, min, max, if◌then◌else◌, Bool, true, false, ◌==◌, List, [], ◌∷◌, ◌++◌, length, map, count_by, All, None}
 use Rattle.delos_types.specs.declared.entry.Entry.{Entry}
 use Rattle.delos_types.specs.declared.item.Item.{Item}
 use Rattle.delos_types.specs.declared.cause.Cause.{Cause}
@@ -8,6 +8,7 @@ use Rattle.legal_journal.specs.Law.{Law}
 use Rattle.legal_journal.specs.declared.events.Event.{Event}
 use Rattle.journal_laws.specs.Own.{faults_of}
 use Rattle.engine_api.specs.Packing.{IsProposable}
+use Rattle.replica_api.specs.Replica.{ReplicaView}
 use Rattle.base_engine.specs.declared.outbox.Given.{Given}
 use Rattle.base_engine.specs.Settling.{sessions_in, has_session, cause_in}
 use Rattle.base_engine.specs.Node.{NodeView, Keeps}
@@ -25,7 +26,12 @@ is_store other = false
 abbrev pub Rises : ℕ → ℕ → ℕ → Type 0
 Rises n before after = min (before + n) (2 ^ 64 - 1) ≤ min after (2 ^ 64 - 1)
 
--- Each of these causes came of its own: those of the log by as many events of who since old, those of the disk by as many of its faults.
+-- The faults of a replica's disk, to which each cause `store` adds one. The first fault of a store that is up takes it down, and is
+-- no cause: the count begins at 1 there.
+abbrev pub strikes : ReplicaView → ℕ
+strikes r = if r.down then r.faults else max r.faults 1
+
+-- Each of these causes came of its own: those of the log by as many events of who since old, those of the disk by a count that rose as often.
 pub record Spends (who : ℕ) (old new : List Event) (before after : ℕ) (causes : List Cause) : Type 0 where
   pub more : List Event
   pub seen : new ≡ old ++ more
@@ -53,7 +59,7 @@ pub record Goes (law : Law) (old new : NodeView) (others : List Cause) : Type 0 
   pub keeps : Keeps law old new
   pub given : List Given
   pub gained : new.outbox.given ≡ old.outbox.given ++ given
-  pub spends : Spends old.who old.seen new.seen old.replica.faults new.replica.faults (causes_of given others)
+  pub spends : Spends old.who old.seen new.seen (strikes old.replica) (strikes new.replica) (causes_of given others)
   pub packs : CanPack old.replica.kept → CanPack new.replica.kept
 
 -- the commands of session s that were given are so still, where it has no cause

@@ -50,9 +50,9 @@ none_of who (e ∷ es) none = by (e.who == who) (none_of who es split.1)
     by false rest = rest
 
 -- no cause came of its own where no fault is told, nor counted by the disk
-pub no_causes : (who : ℕ) (old new : List Event) (before after : ℕ) (causes : List Cause) → Spends who old new before after causes → faults_in new ≡ [] → after ≡ 0 → causes ≡ []
-no_causes who old new before after [] s none calm = refl
-no_causes who old new before after (c ∷ cs) s none calm = absurd (by c s)
+pub no_causes : (who : ℕ) (old new : List Event) (before after : ℕ) (causes : List Cause) → Spends who old new before after causes → faults_in new ≡ [] → 1 ≤ before → after ≤ 1 → causes ≡ []
+no_causes who old new before after [] s none low calm = refl
+no_causes who old new before after (c ∷ cs) s none low calm = absurd (by c s)
   where
     one : (P : Cause → Bool) (k : Cause) → P k ≡ true → 1 ≤ count_by P (k ∷ cs)
     one P k is =
@@ -74,7 +74,7 @@ no_causes who old new before after (c ∷ cs) s none calm = absurd (by c s)
     by cause.Store s =
         let rises = s.disk in
         let some = one is_store cause.Store refl in
-        omega (arith, rises, calm, some)
+        omega (arith, rises, low, calm, some)
 
 -- the log isn't trimmed above what no chain's trim is above
 pub trim_low : (law : Law) (m : ℕ) (seen : List Event) → IsLegal law seen → TrimsUpTo m seen → trim_of (state_of seen) ≤ m

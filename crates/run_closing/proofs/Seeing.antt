@@ -23,7 +23,7 @@ use Rattle.turn_scopes.specs.Seats.{SeatView, node_of}
 use Rattle.node_lines.specs.declared.desk.Desk.{Desk}
 use Rattle.node_lines.specs.declared.lines.Looked.{Looked}
 use Rattle.node_lines.specs.declared.lines.Looked.TheVariants as looked
-use Rattle.node_lines.specs.Moving.{is_store}
+use Rattle.node_lines.specs.Moving.{is_store, strikes}
 use Rattle.node_lines.specs.Workers.{IsOfSessions, MayRun, OwnAdds, ReportsUpTo}
 use Rattle.node_lines.proofs.Ending.{never_above}
 use Rattle.node_course.specs.Moments.{NodeCourse, at_node}
@@ -37,6 +37,7 @@ use Rattle.node_course.proofs.Trimmed.{some_told}
 use Rattle.node_course.proofs.Turning.{trims_low, unasked_stays}
 use Rattle.node_crew.specs.Crews.{CrewRests}
 use Rattle.run_ends.specs.Closing.{WorkerEnd}
+use Rattle.run_ends.proofs.Counting.{strikes_most}
 use Rattle.run_closing.specs.declared.last.Calls.{Calls}
 use Rattle.run_closing.specs.declared.last.Calls.TheVariants.{OfMembers, OfAny}
 use Rattle.run_closing.specs.declared.last.Reach.{Reach}
@@ -65,7 +66,7 @@ module _ (law : Law) (meaning : Meaning) (lines : List NamedLine) (home : ℕ �
   none_failed cause.Store i l come =
       let few = r.node.stores in
       let one = failed_one (lacks_store n) l cause.Store (eq-eqb l.node n come.own) lines looks i come.is come.looked in
-      absurd (omega (arith, few, one, calm))
+      absurd (let most = strikes_most seat.node.replica in omega (arith, few, one, calm, most))
 
   -- so no line asked it to leave
   pub not_asked : HasNoLeave lines looks n → AskedFor lines looks n Retire (λ look. Unit {0}) → ⊥
@@ -204,7 +205,9 @@ module _ {A : Type 0} (seat : A → SeatView) (workers : List A) (k : ℕ) (w w'
             (λ (trimmed : IsTrimmed journal' (seat w').node.replica.cursor). absurd (never_above law journal' (seat w').node.replica.cursor legal (omega (arith, under, forward)) trimmed))
             p.at
         by (inr f) =
-            absurd (some_cause f.cause (no_causes (seat w).who journal journal' (seat w).node.replica.faults (seat w').node.replica.faults (f.cause ∷ []) f.spends calm.told (calm.disks k w' here)))
+            absurd (some_cause f.cause (no_causes (seat w).who journal journal' (strikes (seat w).node.replica) (strikes (seat w').node.replica) (f.cause ∷ []) f.spends calm.told
+            (let few = (h.each k w at).node.stores in omega (arith, few))
+            (let none = calm.disks k w' here in let most = strikes_most (seat w').node.replica in omega (arith, none, most))))
 
 -- One after another
 

@@ -23,7 +23,7 @@ use Rattle.turn_scopes.specs.Seats.{SeatView, SeatOk, node_of}
 use Rattle.node_lines.specs.declared.desk.Desk.{Desk}
 use Rattle.node_lines.specs.Answered.{AreAllAnswers}
 use Rattle.node_lines.specs.declared.lines.Looked.{Looked}
-use Rattle.node_lines.specs.Moving.{CanPack, IsQuiet}
+use Rattle.node_lines.specs.Moving.{CanPack, IsQuiet, strikes}
 use Rattle.node_lines.specs.Desks.{DesksOk}
 use Rattle.node_lines.specs.Workers.{IsOfSession, OwnWithin, ReportsUpTo, Sends, WorkerOk, appended_by, sent_by}
 use Rattle.node_lines.proofs.Bounding.{answers_stay}
@@ -74,7 +74,7 @@ rests_same law meaning lines home nodes c looks n from done seat seat' desks sam
     waiting = r.node.waiting;
     played = λ i l low at own. subst (λ (x : NodeView). PlayedSo lines c done x.replica.cursor n desks looks i l.phase l.asks) (sym same) (r.node.played i l low at own);
     reports = subst (λ (x : NodeView). ReportsUpTo n x.replica.cursor c.seen) (sym same) r.node.reports;
-    stores = let faults = ap (λ (x : NodeView). x.replica.faults) same in let was = r.node.stores in omega (arith, faults, was);
+    stores = let same_count = ap (λ (x : NodeView). strikes x.replica) same in let was = r.node.stores in omega (arith, same_count, was);
   };
   none_given = ap (λ (x : NodeView). x.outbox.given) same ∙ r.none_given;
 }

@@ -5,14 +5,14 @@ use Rattle.engine_steps.specs.Layout.{has_left_in}
 use Rattle.virtual_log.specs.Turning.{IsAbove}
 use Rattle.base_engine.specs.Following.{IsAt, EndsBy}
 use Rattle.base_engine.specs.Node.{NodeView}
-use Rattle.node_lines.specs.Moving.{Spends}
+use Rattle.node_lines.specs.Moving.{Spends, strikes}
 use Rattle.run_closing.specs.declared.last.Calls.{Calls}
 use Rattle.run_closing.specs.declared.last.Calls.TheVariants.{OfMembers, OfAny}
 
 -- the log or the disk failed since, by a fault of its own
 pub record Fails (old new : NodeView) : Type 0 where
   pub cause : Cause
-  pub spends : Spends old.who old.seen new.seen old.replica.faults new.replica.faults (cause ∷ [])
+  pub spends : Spends old.who old.seen new.seen (strikes old.replica) (strikes new.replica) (cause ∷ [])
 
 -- The store is up, or the disk failed. Nothing was seen, sent or settled.
 pub record Reopens (old new : NodeView) : Type 0 where
@@ -22,6 +22,7 @@ pub record Reopens (old new : NodeView) : Type 0 where
   pub seen : new.seen ≡ old.seen
   pub forward : old.replica.cursor ≤ new.replica.cursor
   pub counts : old.replica.faults ≤ new.replica.faults
+  pub struck : strikes old.replica ≤ strikes new.replica
   pub kept : new.replica.kept ≡ old.replica.kept
   pub outbox : new.outbox ≡ old.outbox
   pub up : (new.replica.down ≡ false) ⊎ Fails old new

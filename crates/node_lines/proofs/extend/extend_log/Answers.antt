@@ -5,9 +5,9 @@ use Rattle.legal_journal.specs.declared.events.Event.{Event}
 use Rattle.replica_api.specs.Replica.{ReplicaView}
 use Rattle.base_engine.specs.declared.fault.Fault.TheVariants.{Because}
 use Rattle.base_engine.specs.Causes.{Blames}
-use Rattle.node_lines.specs.Moving.{is_store}
+use Rattle.node_lines.specs.Moving.{is_store, strikes}
 use Rattle.node_lines.proofs.Moving.{moves-sync}
-use Rattle.node_lines.proofs.Spending.{spends-none, spends-blames}
+use Rattle.node_lines.proofs.Spending.{spends-none, spends-blames, strikes-same, twice-same}
 use Rattle.node_lines.proofs.extend.extend_log.Goals as goal
 
 pub returns-in-Ok : goal.returns-in-Ok
@@ -20,7 +20,7 @@ returns-in-Ok g c =
       replaces = record {
         others = [];
         moves = moves-sync p.law c.requires.floor n m [] k c.in-Ok.ensures.outbox (ap (λ (r : ReplicaView). r.kept) c.in-Ok.ensures.replica)
-            (spends-none n.who n.seen m.seen n.replica.faults m.replica.faults (k.later.more, k.later.seen) k.counts);
+            (spends-none n.who n.seen m.seen (strikes n.replica) (strikes m.replica) (k.later.more, k.later.seen) (strikes-same n.replica m.replica c.in-Ok.ensures.replica));
         replica = c.in-Ok.ensures.replica;
         outbox = c.in-Ok.ensures.outbox;
         extends = (refl, c.in-Ok.ensures.extension);
@@ -48,7 +48,8 @@ returns-in-Err-Because g c =
       replaces = record {
         others = why ∷ [];
         moves = moves-sync p.law c.requires.floor n m (why ∷ []) k c.in-Err-Because.ensures.outbox (ap (λ (r : ReplicaView). r.kept) c.in-Err-Because.ensures.replica)
-            (spends-blames n.who n.seen m.seen why n.replica.faults m.replica.faults (k.later.more, k.later.seen) k.counts (blames n.replica.faults m.replica.faults));
+            (spends-blames n.who n.seen m.seen why n.replica m.replica (k.later.more, k.later.seen) (strikes-same n.replica m.replica c.in-Err-Because.ensures.replica) (blames n.replica.faults m.replica.faults)
+            (twice-same n.who n.seen m.seen why n.replica m.replica c.in-Err-Because.ensures.replica (blames n.replica.faults m.replica.faults)));
         replica = c.in-Err-Because.ensures.replica;
         outbox = c.in-Err-Because.ensures.outbox;
         extends = (refl, not_store n.who n.seen m.seen why blames);

@@ -1,8 +1,10 @@
 use Rattle.std.proofs.Common.{[], ◌∷◌, subst}
+use Rattle.base_engine.specs.Arming.{StoreTwice}
 use Rattle.base_engine.specs.Causes.{Blames}
 use Rattle.base_engine.specs.Following.{Reaches}
+use Rattle.node_lines.specs.Moving.{strikes}
 use Rattle.node_lines.proofs.Moving.{moves-sync}
-use Rattle.node_lines.proofs.Spending.{spends-none, spends-blames}
+use Rattle.node_lines.proofs.Spending.{spends-none, spends-blames, strikes-stay}
 use Rattle.node_lines.proofs.leave.play_known.Goals as goal
 
 pub returns-in-Ok : goal.returns-in-Ok
@@ -14,7 +16,7 @@ returns-in-Ok g c =
     let m = c.play.new.self in
     record {
       plays = record {
-        moves = moves-sync p.law c.requires.floor n m [] k e.outbox e.kept (spends-none n.who n.seen m.seen n.replica.faults m.replica.faults (k.later.more, k.later.seen) k.counts);
+        moves = moves-sync p.law c.requires.floor n m [] k e.outbox e.kept (spends-none n.who n.seen m.seen (strikes n.replica) (strikes m.replica) (k.later.more, k.later.seen) (strikes-stay n.replica m.replica k.counts e.down));
         outbox = e.outbox;
         kept = e.kept;
         reaches = λ none. subst (λ to. Reaches to n.replica m.replica m.seen) c.known-end.ensures e.reaches;
@@ -32,7 +34,9 @@ returns-in-Err-Because g c =
     record {
       plays = record {
         moves = moves-sync p.law c.requires.floor n m (why ∷ []) k e.outbox e.kept
-            (spends-blames n.who n.seen m.seen why n.replica.faults m.replica.faults (k.later.more, k.later.seen) k.counts (subst (λ f. Blames n.who n.seen n.replica.faults f m.seen m.replica.faults) c.in-Err-Because.field-0-is e.blames));
+            (spends-blames n.who n.seen m.seen why n.replica m.replica (k.later.more, k.later.seen) (strikes-stay n.replica m.replica k.counts e.down)
+            (subst (λ f. Blames n.who n.seen n.replica.faults f m.seen m.replica.faults) c.in-Err-Because.field-0-is e.blames)
+            (subst (λ f. StoreTwice n.replica f m.replica) c.in-Err-Because.field-0-is e.twice));
         outbox = e.outbox;
         kept = e.kept;
         reaches = λ none. absurd (cc);

@@ -1,6 +1,8 @@
 use Rattle.std.proofs.Common.{subst}
+use Rattle.base_engine.specs.Arming.{StoreTwice}
 use Rattle.base_engine.specs.Causes.{Blames}
-use Rattle.run_closing.proofs.Ending.{stays_down}
+use Rattle.node_lines.proofs.Spending.{strikes-stay}
+use Rattle.run_closing.proofs.Ending.{comes_up, stays_down}
 use Rattle.run_closing.proofs.last.reopen.Goals as goal
 
 pub returns-in-Err-Because : goal.returns-in-Err-Because
@@ -9,5 +11,12 @@ returns-in-Err-Because g c =
     let n = c.args.node.now in
     let m = c.recover.new.self in
     let e = c.in-Err-Because.ensures in
-    stays_down p.law n m c.in-Err-Because.field-0-0 e.keeps e.seen e.kept e.outbox
+    stays_down p.law n m c.in-Err-Because.field-0-0 e.keeps e.seen e.kept e.outbox (strikes-stay c.args.node.now.replica c.recover.new.self.replica e.keeps.counts e.down)
     (subst (λ f. Blames n.who n.seen n.replica.faults f m.seen m.replica.faults) c.in-Err-Because.field-0-is e.blames)
+    (subst (λ f. StoreTwice n.replica f m.replica) c.in-Err-Because.field-0-is e.twice)
+
+pub returns-in-Ok : goal.returns-in-Ok
+returns-in-Ok g c =
+    let p = g.T.Law.Rules in
+    let e = c.in-Ok.ensures in
+    comes_up p.law c.args.node.now c.recover.new.self e.keeps e.seen e.kept e.outbox (strikes-stay c.args.node.now.replica c.recover.new.self.replica e.keeps.counts e.down) e.up
