@@ -1,7 +1,7 @@
 -- Each cause came as often as the rows need, since it did where a row tells it.
-use Rattle.std.proofs.Common.{◌≡◌, ◌≤◌, refl, sym, ap, ◌∙◌, subst, inl, inr, ℕ, ◌+◌, nat_le, Bool, true, false, ◌&&◌, ◌||◌, ◌↔◌, IsTrue, List, [], ◌∷◌, ◌++◌, Option, Some, None, length, slice_get, arith}
+use Rattle.std.proofs.Common.{◌≡◌, ◌≤◌, refl, sym, ap, ◌∙◌, subst, inl, inr, ℕ, ◌+◌, ◌-◌, nat_le, Bool, true, false, not, ◌&&◌, ◌||◌, ◌↔◌, IsTrue, List, [], ◌∷◌, ◌++◌, Option, Some, None, length, slice_get, arith}
 use Rattle.std.specs.List.{list_all, list_any}
-use Rattle.std.proofs.lemmas.Bool.{and_from, and_left, and_parts, and_right, cases_Bool, eqb-true, false≢true, le-leb, leb-true}
+use Rattle.std.proofs.lemmas.Bool.{and_from, and_left, and_parts, cases_Bool, eqb-true, false≢true, le-leb, leb-true}
 use Rattle.delos_types.specs.declared.cause.Cause.{Cause}
 use Rattle.delos_types.specs.declared.cause.Cause.TheVariants as cause
 use Rattle.loglet_api.specs.View.{LogletView}
@@ -9,14 +9,14 @@ use Rattle.fitting_run.specs.declared.answered.Answered.{Answered}
 use Rattle.fitting_run.specs.Answered.{cause_of}
 use Rattle.fitting_run.specs.Tests.{some_is}
 use Rattle.fitting_run.specs.Yards.{lacks_suffice, refusals_suffice}
-use Rattle.fitting_run.specs.Faults.{picked, is_opened, is_first_look, opens_look, opens_other, occasions, turns_of, lacks_quorum, finds_full, lacks_store, lacks_of, faults_of, disk_faults}
+use Rattle.fitting_run.specs.Faults.{picked, is_opened, is_alone, occasions, stops, turns_of, lacks_quorum, finds_full, lacks_store, lacks_of, faults_of, disk_faults}
 
 -- the row tells such a cause
 abbrev names : (ℕ → Cause → Bool) → Answered → Bool
 names by a = some_is (cause_of a.row.outcome) (by a.line.node)
 
-not-opened : (x y z : Bool) → y ≡ false → ((x && y) && z) ≡ false
-not-opened x y z e = and_left (x && y) z (and_right x y e)
+not-opened : (x y z : Bool) → x ≡ false → ((x && y) && z) ≡ false
+not-opened x y z e = and_left (x && y) z (and_left x y e)
 
 neither : (x y : Bool) → (x || y) ≡ false → (x ≡ false) × (y ≡ false)
 neither true y e = absurd (false≢true (sym e))
@@ -31,11 +31,13 @@ none-picked test names fails before (a ∷ rest) h =
 
 none-came : (by : ℕ → Cause → Bool) (told : List Answered) → list_any (names by) told ≡ false → occasions by told ≡ 0
 none-came by told h =
-    let looks : picked (opens_look by) [] told ≡ [] = none-picked (opens_look by) (names by) (λ before a e. not-opened (is_opened before a) (names by a) (is_first_look before a) e) [] told h in
-    let others : picked (opens_other by) [] told ≡ [] = none-picked (opens_other by) (names by) (λ before a e. not-opened (is_opened before a) (names by a) _ e) [] told h in
-    let no_looks : length (picked (opens_look by) [] told) ≡ 0 = ap length looks in
-    let no_turns : turns_of (picked (opens_other by) [] told) ≡ 0 = ap turns_of others in
-    let none : length (picked (opens_look by) [] told) + turns_of (picked (opens_other by) [] told) ≡ 0 = omega arith in
+    let alone : List Answered → Answered → Bool = λ before b. is_opened by before b && is_alone before b in
+    let other : List Answered → Answered → Bool = λ before b. is_opened by before b && not (is_alone before b) in
+    let looks : picked alone [] told ≡ [] = none-picked alone (names by) (λ before a e. not-opened (names by a) (not (list_any (stops a) before)) (is_alone before a) e) [] told h in
+    let others : picked other [] told ≡ [] = none-picked other (names by) (λ before a e. not-opened (names by a) (not (list_any (stops a) before)) (not (is_alone before a)) e) [] told h in
+    let no_looks : length (picked alone [] told) ≡ 0 = ap length looks in
+    let no_turns : turns_of (picked other [] told) ≡ 0 = ap turns_of others in
+    let none : length (picked alone [] told) + turns_of (picked other [] told) ≡ 0 = omega arith in
     none
 
 some-tells : {P : Type 0} (test tells : Answered → Bool) → ((a : Answered) → test a ≡ true → tells a ≡ true → P)
@@ -114,18 +116,18 @@ refusals-counted told cells = (
 
 -- Disks
 
-store-told : (told : List Answered) (disks : List ℕ) (n node : ℕ) (c : Option Cause) → nat_le (occasions (lacks_store node) told) (disk_faults disks node) ≡ true → some_is c (lacks_store n node) ≡ true
-    → occasions (lacks_store n) told ≤ disk_faults disks n
+store-told : (told : List Answered) (disks : List ℕ) (n node : ℕ) (c : Option Cause) → nat_le (occasions (lacks_store node) told) (disk_faults disks node - 1) ≡ true → some_is c (lacks_store n node) ≡ true
+    → occasions (lacks_store n) told ≤ disk_faults disks n - 1
 store-told told disks n node None h e = absurd (false≢true e)
 store-told told disks n node (Some (cause.NoQuorum id unreached)) h e = absurd (false≢true e)
 store-told told disks n node (Some (cause.Full id)) h e = absurd (false≢true e)
 store-told told disks n node (Some cause.Meta) h e = absurd (false≢true e)
 store-told told disks n node (Some cause.Store) h e =
-    subst (λ n. occasions (lacks_store n) told ≤ disk_faults disks n) (eqb-true node n e) (leb-true (occasions (lacks_store node) told) (disk_faults disks node) h)
+    subst (λ n. occasions (lacks_store n) told ≤ disk_faults disks n - 1) (eqb-true node n e) (leb-true (occasions (lacks_store node) told) (disk_faults disks node - 1) h)
 
 pub stores-counted : (told : List Answered) (disks : List ℕ)
-    → IsTrue (list_all (λ a. nat_le (occasions (lacks_store a.line.node) told) (disk_faults disks a.line.node)) told) ↔ ((node : ℕ) → occasions (lacks_store node) told ≤ disk_faults disks node)
+    → IsTrue (list_all (λ a. nat_le (occasions (lacks_store a.line.node) told) (disk_faults disks a.line.node - 1)) told) ↔ ((node : ℕ) → occasions (lacks_store node) told ≤ disk_faults disks node - 1)
 stores-counted told disks = (
-  (λ h node. counted (lacks_store node) told (λ a. nat_le (occasions (lacks_store a.line.node) told) (disk_faults disks a.line.node)) (disk_faults disks node) (λ a. store-told told disks node a.line.node (cause_of a.row.outcome)) h),
-  (λ h. each-passes (λ (a : Answered). nat_le (occasions (lacks_store a.line.node) told) (disk_faults disks a.line.node)) told (λ a. le-leb (occasions (lacks_store a.line.node) told) (disk_faults disks a.line.node) (h a.line.node))),
+  (λ h node. counted (lacks_store node) told (λ a. nat_le (occasions (lacks_store a.line.node) told) (disk_faults disks a.line.node - 1)) (disk_faults disks node - 1) (λ a. store-told told disks node a.line.node (cause_of a.row.outcome)) h),
+  (λ h. each-passes (λ (a : Answered). nat_le (occasions (lacks_store a.line.node) told) (disk_faults disks a.line.node - 1)) told (λ a. le-leb (occasions (lacks_store a.line.node) told) (disk_faults disks a.line.node - 1) (h a.line.node))),
 )

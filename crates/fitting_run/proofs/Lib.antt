@@ -4,3 +4,4 @@ pub mod Turning
 pub mod Counted
 pub mod Positions
 pub mod Reading
+pub mod Implied

@@ -14,7 +14,7 @@ use Rattle.fabric_core.specs.Log.{numbers, reach_of, end_of, virtual_tail, entry
 use Rattle.fitting_run.specs.declared.answered.Answered.{Answered}
 use Rattle.fitting_run.specs.Answered.{cause_of, is_late}
 use Rattle.fitting_run.specs.Cells.{read_of}
-use Rattle.fitting_run.specs.Faults.{FaultsAreCounted, lacks_of, faults_of, is_full, refusals_of, stands, occasions, lacks_quorum, finds_full, turns_of}
+use Rattle.fitting_run.specs.Faults.{FaultsAreCounted, lacked, lacks_of, faults_of, is_full, refusals_of, stands, occasions, lacks_quorum, finds_full, turns_of}
 use Rattle.fitting_run.specs.Tests.{some_is, where_some}
 use Rattle.fitting_run.specs.Yard.{Shown}
 
@@ -71,6 +71,10 @@ full-read : (o : Option LogletView) → some_is (option_map read_of o) is_full �
 full-read None = refl
 full-read (Some v) = refl
 
+lacked-read : (unreached : ℕ) (o : Option LogletView) → some_is (option_map read_of o) (lacked unreached) ≡ some_is o (lacked unreached)
+lacked-read unreached None = refl
+lacked-read unreached (Some v) = refl
+
 lacks-at : (cells : List LogletView) (i : ℕ) → lacks_of (slice_get (map read_of cells) i) ≡ lacks_of (slice_get cells i)
 lacks-at cells i = ap lacks_of (read-at cells i) ∙ lacks-read (slice_get cells i)
 
@@ -86,8 +90,7 @@ abbrev read : Shown → Shown
 read yard = record yard { cells = map read_of yard.cells }
 
 stands-read : (yard : Shown) (node : ℕ) (c : Cause) → stands (read yard) node c ≡ stands yard node c
-stands-read yard node (cause.NoQuorum id unreached) =
-    ap₂ (λ lacks faults. nat_le 1 unreached && nat_le 1 lacks && nat_le 1 faults) (lacks-at yard.cells id) (faults-at yard.cells id)
+stands-read yard node (cause.NoQuorum id unreached) = ap (λ o. some_is o (lacked unreached)) (read-at yard.cells id) ∙ lacked-read unreached (slice_get yard.cells id)
 stands-read yard node (cause.Full id) = ap (λ o. some_is o is_full) (read-at yard.cells id) ∙ full-read (slice_get yard.cells id)
 stands-read yard node cause.Meta = refl
 stands-read yard node cause.Store = refl

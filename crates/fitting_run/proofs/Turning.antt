@@ -15,9 +15,9 @@ use Rattle.row_text.specs.declared.row.Outcome.{Outcome}
 use Rattle.row_text.specs.declared.row.Outcome.TheVariants as out
 use Rattle.fitting_run.specs.declared.answered.Answered.{Answered}
 use Rattle.fitting_run.specs.declared.acting.Turn.{Turn}
-use Rattle.fitting_run.specs.Acts.{act_order, placed_acts, number_of, next_rank}
+use Rattle.fitting_run.specs.Acts.{act_order, placed_acts}
 use Rattle.fitting_run.specs.Reads.{Shows}
-use Rattle.fitting_run.specs.Turns.{turn_cmp, turn_of, with_acts, acts_told, ShowsAfter, AreNumbers}
+use Rattle.fitting_run.specs.Turns.{turn_cmp, turn_of, with_acts, acts_told, number_of, next_rank, ShowsAfter, AreNumbers}
 
 then-assoc : (a b c : Ordering) → ordering_then a (ordering_then b c) ≡ ordering_then (ordering_then a b) c
 then-assoc Less b c = refl

@@ -1,20 +1,28 @@
--- What the placed rows say was done, and what the log says.
-use Rattle.std.specs.Prelude.{◌≡◌, ℕ, ◌+◌, Bool, true, ◌&&◌, nat_lt, nat_le, ◌==◌, if◌then◌else◌, List, [], ◌∷◌, map, fold, filter, flat_map, sum_by, Some}
+-- What the placed rows say was done, and the log that lets it act.
+use Rattle.std.specs.Prelude.{◌≡◌, ◌≤◌, ℕ, true, nat_lt, List, [], ◌∷◌, ◌++◌, length, map, fold, filter, flat_map, drop, take, Some}
 use Rattle.std.specs.Ordering.{nat_cmp, ordering_then}
 use Rattle.std.specs.declared.cmp.Ordering.{Ordering}
 use Rattle.std.specs.FinMap as finmap
-use Rattle.std.specs.List.{list_all}
+use Rattle.std.specs.List.{AllByRecursion, Any}
 use Rattle.delos_types.specs.declared.chain.Chain.{Chain}
+use Rattle.delos_types.specs.declared.entry.Entry.{Entry}
 use Rattle.loglet_api.specs.View.{LogletView}
 use Rattle.engine_api.specs.declared.act.Act.{Act}
-use Rattle.engine_api.specs.Acted.{Asked, replied, acted_log, table_after}
+use Rattle.engine_api.specs.declared.content.Content.{Content}
+use Rattle.engine_api.specs.declared.content.Content.TheVariants as content
+use Rattle.engine_api.specs.Items.{unpack}
+use Rattle.engine_api.specs.Acted.{asked_in, acted_log}
+use Rattle.engine_api.specs.Order.{is_clean}
 use Rattle.fabric_core.specs.Log.{virtual_tail, virtual_log, has_no_gap}
+use Rattle.script_text.specs.declared.line.Admin.TheVariants.{Alive, Retire, Trim}
+use Rattle.script_text.specs.declared.asks.NamedLine.{NamedLine}
 use Rattle.script_text.specs.declared.asks.Asks.{Asks}
 use Rattle.script_text.specs.declared.asks.Asks.TheVariants as asks
 use Rattle.row_text.specs.declared.row.Outcome.{Outcome}
 use Rattle.row_text.specs.declared.row.Outcome.TheVariants as out
-use Rattle.fitting_run.specs.Tests.{◌⇒◌, each_pair}
 use Rattle.fitting_run.specs.Answered.{Answered}
+
+-- What the rows say
 
 -- what a placed row says acted
 abbrev pub act_of : Asks → Outcome → List Act
@@ -36,43 +44,31 @@ placed_acts told = in_order (flat_map (λ a. act_of a.line.asks a.row.outcome) t
 abbrev pub acts_below : ℕ → List Act → List Act
 acts_below pos acts = filter (λ a. nat_lt a.place.pos pos) acts
 
-abbrev pub acts_from : ℕ → List Act → List Act
-acts_from pos acts = filter (λ a. nat_le pos a.place.pos) acts
+-- What the log holds
 
-abbrev pub number_of : ℕ → List Act → ℕ
-number_of s acts = sum_by (λ a. if a.session == s then 1 else 0) acts
+-- the line asks its node to log this
+abbrev pub AsksFor : ℕ → Asks → Content → Type 0
+AsksFor node (asks.Logged s r c) (content.Session session rank command) = (session ≡ s.id) × (rank ≡ r) × (command ≡ Some c)
+AsksFor node (asks.Admin Alive) (content.Alive n position) = n ≡ node
+AsksFor node (asks.Admin Retire) (content.Leave n) = n ≡ node
+AsksFor node (asks.Admin Trim) (content.Trim position) = Unit {0}
+AsksFor node asked said = ⊥
 
--- the first rank of each session that these acts leave to do
-abbrev pub next_rank : List Act → ℕ → ℕ
-next_rank acts s = number_of s acts + 1
+-- each item of an entry is what a line asks of the node that proposed it
+abbrev pub HoldsLines : List NamedLine → Entry → Type 0
+HoldsLines lines e = AllByRecursion (λ p. Any (λ l. (l.node ≡ e.origin) × AsksFor l.node l.asks p.content) lines) (unpack 0 e)
 
--- an act, without what it was answered
-abbrev pub asked : Act → Asked
-asked a = record { place = a.place; session = a.session; rank = a.rank; command = a.command }
-
--- each rank of these acts is at most the number of its session's
-abbrev pub has_first_ranks : List Act → Bool
-has_first_ranks acts = list_all (λ a. nat_le 1 a.rank && nat_le a.rank (number_of a.session acts)) acts
-
--- two acts of different sessions have different places
-abbrev pub stand_apart : Act → Act → Bool
-stand_apart a b = ((a.place.pos == b.place.pos) && (a.place.sub == b.place.sub)) ⇒ (a.session == b.session)
-
--- Each command acts once, with the table's reply: the placed rows are what the log between trim and end
--- lets act, behind what was trimmed.
-pub record ActsOnce (told : List Answered) (chain : Chain) (cells : List LogletView) (end : ℕ) : Type 0 where
+-- Each command acts once, with the table's reply: the placed rows, late ones too, are what one log lets act, from the empty table on,
+-- of which the loglets have all that isn't trimmed.
+pub record ActsOnce (lines : List NamedLine) (told : List Answered) (chain : Chain) (cells : List LogletView) (end : ℕ) : Type 0 where
+  pub log : List Entry
+  pub size : length log ≡ end
+  -- each entry of it, and of what the loglets have behind it
+  pub holds : AllByRecursion (HoldsLines lines) (log ++ virtual_log chain cells end (virtual_tail chain cells))
+  pub acts : placed_acts told ≡ acted_log finmap.empty (λ s. 1) 0 log
+  pub shown : virtual_log chain cells chain.trim end ≡ drop chain.trim log
+  -- each rank that stood below the trim acted there
+  pub clean : is_clean (λ s. 1) (asked_in 0 (take chain.trim log)) ≡ true
   -- no position from the trim up to the tail lacks its entry
   pub whole : has_no_gap chain cells ≡ true
-  pub within : nat_le end (virtual_tail chain cells) ≡ true
-  -- the placed rows of each session are its first ranks
-  pub first_ranks : has_first_ranks (placed_acts told) ≡ true
-  pub apart : each_pair stand_apart (placed_acts told) ≡ true
-  -- those placed below the trim have the replies of the table, from the empty one on
-  pub trimmed :
-      let below = acts_below chain.trim (placed_acts told) in
-      below ≡ replied finmap.empty (map asked below)
-  -- those placed at or above the trim are what the log lets act there, with places and replies
-  pub shown :
-      let below = acts_below chain.trim (placed_acts told) in
-      acts_from chain.trim (placed_acts told)
-      ≡ acted_log (table_after finmap.empty below) (next_rank below) chain.trim (virtual_log chain cells chain.trim end)
+  pub within : end ≤ virtual_tail chain cells

@@ -7,8 +7,8 @@ use Rattle.fitting_run.specs.declared.yard.CellShown.{CellShown}
 abbrev pub cell_of : CellShown → LogletView
 cell_of c = record {
   kind = kind.File;
-  servers = 0;
-  quorum = 0;
+  servers = c.servers;
+  quorum = c.quorum;
   room = c.room;
   rounds = 0;
   limit = c.limit;
@@ -30,8 +30,8 @@ cell_of c = record {
 abbrev pub read_of : LogletView → LogletView
 read_of v = record {
   kind = kind.File;
-  servers = 0;
-  quorum = 0;
+  servers = v.servers;
+  quorum = v.quorum;
   room = v.room;
   rounds = 0;
   limit = v.limit;

@@ -26,14 +26,18 @@ faults_of (Some v) = v.faults
 abbrev pub disk_faults : List ℕ → ℕ → ℕ
 disk_faults disks node = get_or disks (node - 1) 0
 
--- no server was reached that often, and faults were counted; that loglet is full; the register failed; or the node's disk
+-- so many servers of the loglet weren't reached, of those whose silence may leave an operation without its answer, and that was counted
+abbrev pub lacked : ℕ → LogletView → Bool
+lacked unreached v = nat_le 1 unreached && nat_le v.quorum unreached && nat_le unreached v.servers && nat_le 1 v.lacks && nat_le 1 v.faults
+
+-- that loglet lacked so many servers; it is full; the register failed; or the node's disk
 abbrev pub stands : Shown → ℕ → Cause → Bool
-stands yard node (cause.NoQuorum id unreached) = nat_le 1 unreached && nat_le 1 (lacks_of (slice_get yard.cells id)) && nat_le 1 (faults_of (slice_get yard.cells id))
+stands yard node (cause.NoQuorum id unreached) = some_is (slice_get yard.cells id) (lacked unreached)
 stands yard node (cause.Full id) = some_is (slice_get yard.cells id) is_full
 stands yard node cause.Meta = nat_le 1 yard.register.faults
 stands yard node cause.Store = nat_le 1 (disk_faults yard.disks node)
 
--- Which rows were opened
+-- Which rows were opened, and which of them stand alone
 
 -- the rows that pass a test, which sees the rows before each
 abbrev pub picked : {A : Type 0} → (List A → A → Bool) → List A → List A → List A
@@ -47,10 +51,6 @@ is_broken a = is_open a.row.outcome || is_late a.row.outcome
 abbrev pub stops : Answered → Answered → Bool
 stops b a = same_session a b && before_barrier a b && is_logged a && is_broken a
 
--- open or late, and its session wasn't stopped before its phase; a line of no session is opened where it is open
-abbrev pub is_opened : List Answered → Answered → Bool
-is_opened before b = is_broken b && not (list_any (stops b) before)
-
 abbrev pub same_turn : Answered → Answered → Bool
 same_turn a b = (a.line.node == b.line.node) && (a.line.phase == b.line.phase)
 
@@ -59,29 +59,25 @@ abbrev pub logs_beside : Answered → Answered → Bool
 logs_beside b a = same_session a b && (a.line.phase == b.line.phase) && is_logged a
 
 -- a read, with no logged line of its session earlier in its phase; so is each line that is of no session
-abbrev pub is_first_look : List Answered → Answered → Bool
-is_first_look before b = not (is_logged b) && not (list_any (logs_beside b) before)
+abbrev pub is_alone : List Answered → Answered → Bool
+is_alone before b = not (is_logged b || list_any (logs_beside b) before)
 
 -- How often a cause must have come; which causes are one is told by the row's node
 
-abbrev pub is_opened_by : (ℕ → Cause → Bool) → List Answered → Answered → Bool
-is_opened_by by before b = is_opened before b && some_is (cause_of b.row.outcome) (by b.line.node)
-
-abbrev pub opens_look : (ℕ → Cause → Bool) → List Answered → Answered → Bool
-opens_look by before b = is_opened_by by before b && is_first_look before b
-
-abbrev pub opens_other : (ℕ → Cause → Bool) → List Answered → Answered → Bool
-opens_other by before b = is_opened_by by before b && not (is_first_look before b)
+-- open by such a cause, and its session wasn't stopped before its phase; a line of no session is opened where it is open
+abbrev pub is_opened : (ℕ → Cause → Bool) → List Answered → Answered → Bool
+is_opened by before b = some_is (cause_of b.row.outcome) (by b.line.node) && not (list_any (stops b) before)
 
 -- how many pairs of a node and a phase these rows have
 abbrev pub turns_of : List Answered → ℕ
 turns_of [] = 0
 turns_of (a ∷ rest) = (if list_any (same_turn a) rest then 0 else 1) + turns_of rest
 
--- Each opened first look stands for an occasion of its own, and so does each open line of no session; all other opened rows of
--- one node and phase stand for one.
+-- Each opened row that stands alone is an occasion of its own; all other opened rows of one node and phase are one.
 abbrev pub occasions : (ℕ → Cause → Bool) → List Answered → ℕ
-occasions by told = length (picked (opens_look by) [] told) + turns_of (picked (opens_other by) [] told)
+occasions by told =
+    length (picked (λ before b. is_opened by before b && is_alone before b) [] told)
+    + turns_of (picked (λ before b. is_opened by before b && not (is_alone before b)) [] told)
 
 abbrev pub lacks_quorum : ℕ → ℕ → Cause → Bool
 lacks_quorum cell node (cause.NoQuorum id unreached) = id == cell
@@ -110,7 +106,8 @@ pub record FaultsAreCounted (told : List Answered) (yard : Shown) : Type 0 where
   pub lacks : (cell : ℕ) → occasions (lacks_quorum cell) told ≤ lacks_of (slice_get yard.cells cell)
   pub refusals : (cell : ℕ) → occasions (finds_full cell) told ≤ faults_of (slice_get yard.cells cell)
   pub register : occasions lacks_register told ≤ yard.register.faults
-  pub stores : (node : ℕ) → occasions (lacks_store node) told ≤ disk_faults yard.disks node
+  -- a store that fails is opened again, and only where the disk fails once more then is it a cause
+  pub stores : (node : ℕ) → occasions (lacks_store node) told ≤ disk_faults yard.disks node - 1
   -- the nodes and phases with a late row
   pub late : turns_of (filter (λ a. is_late a.row.outcome) told)
       ≤ sum_by (λ v. v.lacks) yard.cells + sum_by refusals_of yard.cells + yard.register.faults + sum_by (λ n. n) yard.disks

@@ -27,11 +27,11 @@ pub record ChainIsRegistered (o : Told) (r : RegisterView) : Type 0 where
 abbrev pub told_of : List NamedLine → Told → List Answered
 told_of lines o = answered_lines lines o.rows
 
--- What a run tells of this script fits the yard that it gave back. Rows marked `late` keep neither session
--- nor barrier order; of all else each part speaks.
+-- What a run tells of this script fits the yard that it gave back. Nobody waited for a row marked `late`: what is asked in its phase or
+-- later may stand below it.
 pub record Fits (lines : List NamedLine) (o : Told) (yard : Shown) : Type 0 where
   pub one_row_each : OneRowEach lines o.rows
-  pub acts_once : ActsOnce (told_of lines o) o.chain yard.cells o.end
+  pub acts_once : ActsOnce lines (told_of lines o) o.chain yard.cells o.end
   pub session_order : KeepsSessionOrder (told_of lines o)
   pub reads_are_current : ReadsAreCurrent (told_of lines o) o.end
   pub barriers : keeps_barriers (told_of lines o) ≡ true

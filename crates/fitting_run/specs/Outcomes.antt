@@ -1,8 +1,8 @@
 -- One row for each line, and the order of sessions and barriers.
-use Rattle.std.specs.Prelude.{◌≡◌, ℕ, Bool, true, false, not, ◌&&◌, ◌||◌, nat_lt, nat_le, nat_eq, ◌==◌, List, length, filter, Option, Some, None}
+use Rattle.std.specs.Prelude.{◌≡◌, ℕ, Bool, true, false, not, ◌&&◌, ◌||◌, nat_lt, nat_le, nat_eq, ◌==◌, if◌then◌else◌, List, length, filter, Option, Some, None}
 use Rattle.std.specs.Cmp.Lexicographic.{pointwise}
-use Rattle.std.specs.List.{list_all, list_any}
-use Rattle.delos_types.specs.declared.place.Place.{Place}
+use Rattle.std.specs.List.{list_all, list_any, filter_map}
+use Rattle.delos_types.specs.declared.cause.Cause.{Cause}
 use Rattle.script_text.specs.declared.asks.NamedLine.{NamedLine}
 use Rattle.script_text.specs.declared.line.Session.{Session}
 use Rattle.script_text.specs.declared.line.Admin.TheVariants.{Extend, Alive, Trim, Retire}
@@ -14,7 +14,7 @@ use Rattle.row_text.specs.declared.row.Who.TheVariants as who
 use Rattle.row_text.specs.declared.row.Outcome.{Outcome}
 use Rattle.row_text.specs.declared.row.Outcome.TheVariants as out
 use Rattle.fitting_run.specs.Tests.{◌⇒◌, where_some, each_pair}
-use Rattle.fitting_run.specs.Answered.{Answered, has_row, session_asking, same_session, before_barrier, is_logged, is_placed_on_time, is_open, on_time, on_read, place_le, answered_lines, cause_of, same_cause}
+use Rattle.fitting_run.specs.Answered.{Answered, has_row, session_asking, same_session, before_barrier, is_logged, is_placed_on_time, is_open, on_time, place_le, answered_lines, cause_of, same_cause}
 use Rattle.fitting_run.specs.Faults.{stops}
 
 -- One row for each `on` line, in order, with its number and who asked
@@ -58,40 +58,35 @@ rises a b = same_session a b ⇒ on_time a.row.outcome (λ p. on_time b.row.outc
 abbrev pub is_stopped_by : Answered → Answered → Bool
 is_stopped_by a b = (same_session a b && before_barrier a b && is_logged a && not (is_placed_on_time a)) ⇒ is_open b.row.outcome
 
--- its row, if it is open, tells why its session was stopped: it is a command's, or of a later phase than one that stopped it
-abbrev pub tells_why : List Answered → Answered → Bool
-tells_why told b = is_logged b || list_any (stops b) told
-
--- open rows of one session that tell why it was stopped tell one cause
-abbrev pub shares_cause : List Answered → Answered → Answered → Bool
-shares_cause told a b =
-    (same_session a b && tells_why told a && tells_why told b)
-    ⇒ where_some (cause_of a.row.outcome) (λ c. where_some (cause_of b.row.outcome) (same_cause c))
+-- the cause that b tells for the stop of the session of a: b is an open command of it, or an open row of a later phase than one that stopped it
+abbrev pub stop_cause : List Answered → Answered → Answered → Option Cause
+stop_cause told a b = if same_session a b && (is_logged b || list_any (stops b) told) then cause_of b.row.outcome else None
 
 -- places in a session don't fall, and a session that was stopped stays so, with the cause that it was stopped by
 pub record KeepsSessionOrder (told : List Answered) : Type 0 where
   pub places : each_pair rises told ≡ true
   pub stopped : each_pair is_stopped_by told ≡ true
-  pub causes : each_pair (shares_cause told) told ≡ true
+  pub causes : list_all (λ a. each_pair same_cause (filter_map (stop_cause told a) told)) told ≡ true
 
--- Barriers, rows without `late`
+-- Barriers
 
--- what this row says came after the place p
-abbrev pub is_above : Place → Outcome → Bool
-is_above p later = on_time later (λ q. nat_lt p.pos q.pos) && on_read later (λ after. nat_lt p.pos after)
+-- what this row says came below the position: a place, unless it is late, where a read looked, where a segment begins
+abbrev pub comes_below : Outcome → ℕ → Bool
+comes_below (out.Placed p reply late) position = late || nat_lt p.pos position
+comes_below (out.Read after found) position = nat_le after position
+comes_below (out.Extended v start) position = nat_le start position
+comes_below other position = true
 
--- what this row says came not before a read that looked at `after`
-abbrev pub is_not_below : ℕ → Outcome → Bool
-is_not_below after later = on_time later (λ q. nat_le after q.pos) && on_read later (λ at. nat_le after at)
-
--- b's place, or the position that b looked at, comes after a's
-abbrev pub is_passed : Answered → Answered → Bool
-is_passed a b =
-    on_time a.row.outcome (λ p. is_above p b.row.outcome) && on_read a.row.outcome (λ after. is_not_below after b.row.outcome)
+-- the log had no entry from there on as the row's phase began
+abbrev pub begins_upto : Outcome → Option ℕ
+begins_upto (out.Placed p reply late) = Some p.pos
+begins_upto (out.Read after found) = Some after
+begins_upto (out.Extended v start) = Some start
+begins_upto other = None
 
 abbrev pub keeps_barrier : Answered → Answered → Bool
-keeps_barrier a b = before_barrier a b ⇒ is_passed a b
+keeps_barrier a b = before_barrier a b ⇒ where_some (begins_upto b.row.outcome) (comes_below a.row.outcome)
 
--- what is asked behind a barrier comes after all that was asked before it
+-- what is asked behind a barrier comes after all that was placed in its phase before it, or looked at
 abbrev pub keeps_barriers : List Answered → Bool
 keeps_barriers told = each_pair keeps_barrier told

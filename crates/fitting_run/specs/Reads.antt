@@ -1,5 +1,5 @@
 -- Reads are current: each shows the table after all that was placed below it.
-use Rattle.std.specs.Prelude.{◌≡◌, ℕ, Bool, true, not, ◌&&◌, nat_lt, nat_le, List, is_some}
+use Rattle.std.specs.Prelude.{◌≡◌, ℕ, Bool, true, not, ◌&&◌, ◌==◌, nat_lt, nat_le, List, is_some}
 use Rattle.std.specs.List.{list_all, AllByRecursion}
 use Rattle.table_core.specs.Find.{find_in}
 use Rattle.script_text.specs.declared.asks.Asks.{Asks}
@@ -24,6 +24,10 @@ looks_in_order a b = same_session a b ⇒ (
     && on_read a.row.outcome (λ after. on_time b.row.outcome (λ q. nat_le after q.pos))
     )
 
+-- of two reads of one node the later looked at no lower position
+abbrev pub looks_forward : Answered → Answered → Bool
+looks_forward a b = (a.line.node == b.line.node) ⇒ on_read a.row.outcome (λ after. on_read b.row.outcome (λ later. nat_le after later))
+
 -- b isn't a read that was answered, where a is an earlier command of its session that isn't placed in its phase
 abbrev pub is_kept_open : Answered → Answered → Bool
 is_kept_open a b = (same_session a b && is_logged a && not (is_placed_on_time a)) ⇒ not (is_some (looked_at b.row.outcome))
@@ -34,5 +38,7 @@ pub record ReadsAreCurrent (told : List Answered) (end : ℕ) : Type 0 where
   pub shows : AllByRecursion (λ a. Shows told a.line.asks a.row.outcome) told
   -- it stands above its session's earlier places, and not above the later ones
   pub order : each_pair looks_in_order told ≡ true
+  -- nor below the earlier reads of its node
+  pub forward : each_pair looks_forward told ≡ true
   -- and none is answered whose session was stopped before
   pub kept : each_pair is_kept_open told ≡ true

@@ -1,5 +1,5 @@
 -- Replacements of the loglet: what the lines that asked for one were answered, and the chain that is told.
-use Rattle.std.specs.Prelude.{◌≡◌, ℕ, ◌+◌, Bool, true, false, not, ◌&&◌, ◌||◌, nat_lt, nat_le, ◌==◌, if◌then◌else◌, List, Option, Some, None, is_some, sum_by}
+use Rattle.std.specs.Prelude.{◌≡◌, ℕ, ◌+◌, Bool, true, false, not, ◌&&◌, ◌||◌, nat_lt, nat_le, ◌==◌, if◌then◌else◌, List, length, Option, Some, None, is_some, sum_by}
 use Rattle.std.specs.List.{list_all, list_any}
 use Rattle.delos_types.specs.declared.chain.Chain.{Chain}
 use Rattle.chain_map.specs.Chain.{first_start, last_id}
@@ -10,11 +10,6 @@ use Rattle.fitting_run.specs.Tests.{◌⇒◌, where_some, each_pair}
 use Rattle.fitting_run.specs.Answered.{Answered, before_barrier}
 
 -- What a row tells
-
--- the version of the chain that the line made
-abbrev pub version_made : Outcome → Option ℕ
-version_made (out.Extended v s) = Some v
-version_made other = None
 
 -- where the segment begins that the line made
 abbrev pub start_made : Outcome → Option ℕ
@@ -43,8 +38,10 @@ lacks_spare other = false
 abbrev pub is_behind : Answered → Answered → Bool
 is_behind a b = (a.line.node == b.line.node) || before_barrier a b
 
-abbrev pub makes_another : Answered → Answered → Bool
-makes_another a b = where_some (version_made a.row.outcome) (λ v. where_some (version_made b.row.outcome) (λ w. not (v == w)))
+-- lines that made two versions, of which the lower begins no higher
+abbrev pub make_in_order : Outcome → Outcome → Bool
+make_in_order (out.Extended v s) (out.Extended w t) = (nat_lt v w && nat_le s t) || (nat_lt w v && nat_le t s)
+make_in_order answered other = true
 
 abbrev pub tells_higher : Answered → Answered → Bool
 tells_higher a b = is_behind a b ⇒ where_some (version_told a.row.outcome) (λ v. where_some (version_told b.row.outcome) (λ w. nat_lt v w))
@@ -84,11 +81,16 @@ is_overtaken lines a = where_some (version_found a.row.outcome) (λ v. nat_le 2 
 abbrev pub is_spent : Chain → ℕ → Answered → Bool
 is_spent chain shelf a = lacks_spare a.row.outcome ⇒ (last_id chain + 1 == shelf)
 
+-- each version behind the first has a loglet of its own, but for those that trimmed the log; and where none did, a segment
+abbrev pub goes_by_ones : ℕ → Chain → Bool
+goes_by_ones version chain =
+    if chain.trim == 0 then (version == last_id chain + 1) && (length chain.segments == last_id chain + 1) else nat_le (last_id chain + 2) version
+
 -- What the lines of a script were answered that asked to extend the chain, and the chain that is told with its version. The
 -- shelf has so many loglets.
 pub record ReplacementsAgree (lines : List NamedLine) (told : List Answered) (version : ℕ) (chain : Chain) (shelf : ℕ) : Type 0 where
-  -- no two lines made one version
-  pub versions : each_pair makes_another told ≡ true
+  -- no two lines made one version, and starts don't fall as versions rise
+  pub versions : each_pair (λ a b. make_in_order a.row.outcome b.row.outcome) told ≡ true
   -- versions rise along the lines of a node, and from phase to phase
   pub rise : each_pair tells_higher told ≡ true
   -- where no loglet was to spare, none is replaced later
@@ -99,3 +101,4 @@ pub record ReplacementsAgree (lines : List NamedLine) (told : List Answered) (ve
   -- another node's replacement needs another node
   pub overtaken : list_all (is_overtaken lines) told ≡ true
   pub last : list_all (is_spent chain shelf) told ≡ true
+  pub counts : goes_by_ones version chain ≡ true

@@ -38,10 +38,11 @@ reports_all told b = where_some (reported b.row.outcome) (λ d. list_all (is_don
 
 -- Behind a report
 
--- what this row says stands at this position or above, a late place too
+-- what this row says stands at this position or above, a late place too; and what it reports is no less
 abbrev pub is_from : ℕ → Outcome → Bool
 is_from d (out.Placed p reply late) = nat_le d p.pos
 is_from d (out.Read after found) = nat_le d after
+is_from d (out.Alive clean) = nat_le d clean
 is_from d other = true
 
 -- where a reports, b stands there or above, if it is a later line of its node or of a later phase
@@ -79,7 +80,7 @@ has_leave trim items b = is_retired b.row.outcome ⇒ ((trim == 0) ⇒ has_left 
 pub record ReportsStand (told : List Answered) (trim : ℕ) (items : List Placed) (end : ℕ) : Type 0 where
   pub within : list_all (is_within end) told ≡ true
   pub all : list_all (reports_all told) told ≡ true
-  -- what comes behind a report stands at it or above
+  -- what comes behind a report stands at it or above, a later report too
   pub above : each_pair stays_above told ≡ true
   pub stand : list_all (stands_in_log trim items) told ≡ true
   pub left : list_all (has_leave trim items) told ≡ true

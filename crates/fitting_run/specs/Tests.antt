@@ -22,7 +22,7 @@ abbrev pub each_pair : {A : Type 0} → (A → A → Bool) → List A → Bool
 each_pair r [] = true
 each_pair r (x ∷ xs) = list_all (r x) xs && each_pair r xs
 
--- each element passes the test, behind those before it
-abbrev pub each_after : {A : Type 0} → (List A → A → Bool) → List A → List A → Bool
-each_after test before [] = true
-each_after test before (x ∷ xs) = test before x && each_after test (before ++ x ∷ []) xs
+-- each element passes the test, between those before it and those behind it
+abbrev pub each_amid : {A : Type 0} → (List A → A → List A → Bool) → List A → List A → Bool
+each_amid test before [] = true
+each_amid test before (x ∷ xs) = test before x xs && each_amid test (before ++ x ∷ []) xs

@@ -128,7 +128,7 @@ fn acts_below(alloc: Global, pos: u64, acts: &[Act]) -> Result<Acts, AllocError>
 }
 
 fn acts_from(alloc: Global, pos: u64, acts: &[Act]) -> Result<Acts, AllocError>
-    ensures { IfOk result (λ above. above ≡ acts_of.acts_from pos acts.now) }
+    ensures { IfOk result (λ above. above ≡ turns_of.acts_from pos acts.now) }
 {
     let mut above = Vec::new(alloc);
     for act in acts {
@@ -141,7 +141,7 @@ fn acts_from(alloc: Global, pos: u64, acts: &[Act]) -> Result<Acts, AllocError>
 
 // The same, without what was answered.
 fn asked_of(alloc: Global, acts: &[Act]) -> Result<Appearances, AllocError>
-    ensures { IfOk result (λ asked. asked ≡ map acts_of.asked acts.now) }
+    ensures { IfOk result (λ asked. asked ≡ map turns_of.asked acts.now) }
 {
     let mut asked = Vec::new(alloc);
     for act in acts {
@@ -179,7 +179,7 @@ fn same_acts(some: &[Act], others: &[Act]) -> bool
 /// Those of these acts that are below the trim have the replies of the table, from the empty one on.
 pub fn have_replies(alloc: Global, trim: u64, acts: &[Act]) -> Result<bool, AllocError>
     ensures { let below = acts_of.acts_below trim acts.now in
-        IfOk result (λ holds. IsTrue holds ↔ (below ≡ log.replied finmap.empty (map acts_of.asked below))) }
+        IfOk result (λ holds. IsTrue holds ↔ (below ≡ log.replied finmap.empty (map turns_of.asked below))) }
 {
     let below = acts_below(alloc, trim, acts)?;
     let asked = asked_of(alloc, below.as_slice())?;
@@ -219,7 +219,7 @@ fn acted_behind(
 ) -> Result<Acted, AllocError>
     requires { trim + length entries.now ≤ 2 ^ 64 }
     ensures { let below = acts_of.acts_below trim acts.now in
-        IfOk result (λ done. done.acts ≡ log.acted_log (log.table_after finmap.empty below) (acts_of.next_rank below) trim entries.now) }
+        IfOk result (λ done. done.acts ≡ log.acted_log (log.table_after finmap.empty below) (turns_of.next_rank below) trim entries.now) }
 {
     let below = acts_below(alloc, trim, acts)?;
     let table = table_after(alloc, below.as_slice())?;
@@ -237,7 +237,7 @@ pub fn log_shows(
 ) -> Result<bool, AllocError>
     requires { trim + length entries.now ≤ 2 ^ 64 }
     ensures { let below = acts_of.acts_below trim acts.now in
-        IfOk result (λ holds. IsTrue holds ↔ (acts_of.acts_from trim acts.now ≡ log.acted_log (log.table_after finmap.empty below) (acts_of.next_rank below) trim entries.now)) }
+        IfOk result (λ holds. IsTrue holds ↔ (turns_of.acts_from trim acts.now ≡ log.acted_log (log.table_after finmap.empty below) (turns_of.next_rank below) trim entries.now)) }
 {
     let done = acted_behind(alloc, trim, acts, entries)?;
     let above = acts_from(alloc, trim, acts)?;

@@ -3,7 +3,7 @@ ghost use Rattle.std.specs.Prelude.{◌≡◌, ◌≤◌, ◌*◌, [], length, t
 ghost use Rattle.std.specs.List.{list_any};
 ghost use Rattle.fitting_run.specs.Answered as answers_of;
 ghost use Rattle.fitting_run.specs.Faults as faults;
-ghost use Rattle.fitting_run.specs.Sorts.{comes_by};
+ghost use Rattle.fitting_run.specs.Sorts.{comes_by, opens_alone, opens_other};
 
 use crate::answered::Answered;
 use crate::fitting::{cause_of, is_late, is_open, logs, same_session, some_stops};
@@ -33,17 +33,11 @@ fn comes_by(sort: &Sort, node: NodeId, cause: Cause) -> bool
     }
 }
 
-fn is_opened(before: &[Answered], b: &Answered) -> bool
-    ensures { result ≡ faults.is_opened before.now b.now }
-{
-    (is_open(&b.row.outcome) || is_late(&b.row.outcome)) && !some_stops(b, before)
-}
-
-fn is_opened_by(sort: &Sort, before: &[Answered], b: &Answered) -> bool
-    ensures { result ≡ faults.is_opened_by (comes_by sort.now) before.now b.now }
+fn is_opened(sort: &Sort, before: &[Answered], b: &Answered) -> bool
+    ensures { result ≡ faults.is_opened (comes_by sort.now) before.now b.now }
 {
     match cause_of(&b.row.outcome) {
-        Some(cause) => is_opened(before, b) && comes_by(sort, b.line.node, cause),
+        Some(cause) => comes_by(sort, b.line.node, cause) && !some_stops(b, before),
         None => false,
     }
 }
@@ -63,45 +57,42 @@ fn logs_beside(b: &Answered, a: &Answered) -> bool
 fn some_logs_beside(b: &Answered, before: &[Answered]) -> bool
     ensures { result ≡ list_any (faults.logs_beside b.now) before.now }
 {
-    before.iter().any(|a| logs_beside(b, a))
+    match before {
+        [] => false,
+        [a, rest @ ..] => logs_beside(b, a) || some_logs_beside(b, rest),
+    }
 }
 
-fn is_first_look(before: &[Answered], b: &Answered) -> bool
-    ensures { result ≡ faults.is_first_look before.now b.now }
+fn is_alone(before: &[Answered], b: &Answered) -> bool
+    ensures { result ≡ faults.is_alone before.now b.now }
 {
-    !logs(&b.line.asks) && !some_logs_beside(b, before)
-}
-
-fn opens_look(sort: &Sort, before: &[Answered], b: &Answered) -> bool
-    ensures { result ≡ faults.opens_look (comes_by sort.now) before.now b.now }
-{
-    is_opened_by(sort, before, b) && is_first_look(before, b)
+    !(logs(&b.line.asks) || some_logs_beside(b, before))
 }
 
 fn opens_other(sort: &Sort, before: &[Answered], b: &Answered) -> bool
-    ensures { result ≡ faults.opens_other (comes_by sort.now) before.now b.now }
+    ensures { result ≡ opens_other (comes_by sort.now) before.now b.now }
 {
-    is_opened_by(sort, before, b) && !is_first_look(before, b)
+    is_opened(sort, before, b) && !is_alone(before, b)
 }
 
-// How many first looks such a cause opened.
+// How many rows that stand alone such a cause opened.
 fn looks_opened(sort: &Sort, told: &[Answered]) -> u64
-    ensures looks { result ≡ length (faults.picked (faults.opens_look (comes_by sort.now)) [] told.now) }
+    ensures looks { result ≡ length (faults.picked (opens_alone (comes_by sort.now)) [] told.now) }
     ensures few { result ≤ length told.now }
 {
     let mut looks = 0;
     for (i, b) in told.iter().enumerate() {
-        if opens_look(sort, &told[..i], b) {
+        if is_opened(sort, &told[..i], b) && is_alone(&told[..i], b) {
             looks += 1;
         }
     }
     looks
 }
 
-// A row from `at` on that isn't a first look was opened by such a cause, in the turn of `b`.
+// A row from `at` on that doesn't stand alone was opened by such a cause, in the turn of `b`.
 fn opens_in_turn(sort: &Sort, told: &[Answered], at: usize, b: &Answered) -> bool
     requires { at ≤ length told.now }
-    ensures { result ≡ list_any (faults.same_turn b.now) (faults.picked (faults.opens_other (comes_by sort.now)) (take at told.now) (drop at told.now)) }
+    ensures { result ≡ list_any (faults.same_turn b.now) (faults.picked (opens_other (comes_by sort.now)) (take at told.now) (drop at told.now)) }
 {
     for i in at..told.len() {
         if opens_other(sort, &told[..i], &told[i]) && same_turn(b, &told[i]) {
@@ -113,7 +104,7 @@ fn opens_in_turn(sort: &Sort, told: &[Answered], at: usize, b: &Answered) -> boo
 
 // How many turns there are in which such a cause opened other rows: those of each turn's last.
 fn turns_opened(sort: &Sort, told: &[Answered]) -> u64
-    ensures turns { result ≡ faults.turns_of (faults.picked (faults.opens_other (comes_by sort.now)) [] told.now) }
+    ensures turns { result ≡ faults.turns_of (faults.picked (opens_other (comes_by sort.now)) [] told.now) }
     ensures few { result ≤ length told.now }
 {
     let mut turns = 0;

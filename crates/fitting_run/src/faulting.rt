@@ -61,6 +61,25 @@ fn some_is_full(cells: &[CellShown], id: u32) -> bool
     }
 }
 
+fn lacked(cell: &CellShown, unreached: u64) -> bool
+    ensures { result ≡ faults.lacked unreached (cell_of cell.now) }
+{
+    1 <= unreached
+        && cell.quorum <= unreached
+        && unreached <= cell.servers
+        && 1 <= cell.lacks
+        && 1 <= cell.faults
+}
+
+fn some_lacked(cells: &[CellShown], id: u32, unreached: u64) -> bool
+    ensures { result ≡ some_is (slice_get (map cell_of cells.now) id) (faults.lacked unreached) }
+{
+    match cells.get(id as usize) {
+        Some(cell) => lacked(cell, unreached),
+        None => false,
+    }
+}
+
 fn disk_faults(disks: &[u64], node: NodeId) -> u64
     ensures { result ≡ faults.disk_faults disks.now node }
 {
@@ -75,9 +94,7 @@ fn stands(yard: &YardShown, node: NodeId, cause: Cause) -> bool
 {
     match cause {
         Cause::NoQuorum { id, unreached } => {
-            unreached >= 1
-                && lacks_of(yard.cells.as_slice(), id) >= 1
-                && faults_of(yard.cells.as_slice(), id) >= 1
+            some_lacked(yard.cells.as_slice(), id, u64::from(unreached))
         }
         Cause::Full { id } => some_is_full(yard.cells.as_slice(), id),
         Cause::Meta => yard.register.faults >= 1,
@@ -156,21 +173,22 @@ pub fn register_is_counted(told: &[Answered], register: &RegisterShown) -> bool
 }
 
 fn stores_suffice(told: &[Answered], disks: &[u64], node: NodeId) -> bool
-    ensures { result ≡ nat_le (faults.occasions (faults.lacks_store node) told.now) (faults.disk_faults disks.now node) }
+    ensures { result ≡ nat_le (faults.occasions (faults.lacks_store node) told.now) (faults.disk_faults disks.now node - 1) }
 {
-    occasions(&Sort::Store(node), told) <= disk_faults(disks, node)
+    // At its first fault it is opened again.
+    occasions(&Sort::Store(node), told) <= disk_faults(disks, node).saturating_sub(1)
 }
 
 fn all_stores_suffice(told: &[Answered], disks: &[u64], some: &[Answered]) -> bool
-    ensures { result ≡ list_all (λ a. nat_le (faults.occasions (faults.lacks_store a.line.node) told.now) (faults.disk_faults disks.now a.line.node)) some.now }
+    ensures { result ≡ list_all (λ a. nat_le (faults.occasions (faults.lacks_store a.line.node) told.now) (faults.disk_faults disks.now a.line.node - 1)) some.now }
 {
     some.iter()
         .all(|a| stores_suffice(told, disks, a.line.node))
 }
 
-/// Each node's disk failed as often as the rows need.
+/// Each node's disk failed as often as the rows need, and once more where they need it at all.
 pub fn stores_are_counted(told: &[Answered], disks: &[u64]) -> bool
-    ensures { IsTrue result ↔ ((node : ℕ) → faults.occasions (faults.lacks_store node) told.now ≤ faults.disk_faults disks.now node) }
+    ensures { IsTrue result ↔ ((node : ℕ) → faults.occasions (faults.lacks_store node) told.now ≤ faults.disk_faults disks.now node - 1) }
 {
     all_stores_suffice(told, disks, told)
 }

@@ -1,14 +1,14 @@
 //! The tests of which a fitting run is made, as plain programs: whether a row is of its line, and
 //! whether sessions and barriers are kept. The tests on lists compare each row with each later one.
 ghost use Rattle.std.specs.Prelude.{◌≡◌, ◌↔◌, ◌&&◌, IsTrue, nat_le, filter, length};
-ghost use Rattle.std.specs.List.{list_all, list_any};
+ghost use Rattle.std.specs.List.{list_all, list_any, filter_map};
 ghost use Rattle.std.specs.Option.{option_copied};
 ghost use Rattle.fitting_run.specs.Faults.{stops};
 ghost use Rattle.fitting_run.specs.Tests.{each_pair, where_some};
-ghost use Rattle.fitting_run.specs.Acts as acts_of;
 ghost use Rattle.fitting_run.specs.Answered as answers_of;
 ghost use Rattle.fitting_run.specs.Outcomes as outcomes;
 ghost use Rattle.fitting_run.specs.Reads as reads;
+ghost use Rattle.fitting_run.specs.Turns as turns_of;
 
 use crate::answered::Answered;
 use delos_types::cause::Cause;
@@ -246,12 +246,6 @@ pub(crate) fn some_stops(b: &Answered, told: &[Answered]) -> bool
     told.iter().any(|a| stops(b, a))
 }
 
-fn tells_why(told: &[Answered], b: &Answered) -> bool
-    ensures { result ≡ outcomes.tells_why told.now b.now }
-{
-    logs(&b.line.asks) || some_stops(b, told)
-}
-
 pub(crate) fn cause_of(outcome: &Outcome) -> Option<Cause>
     ensures { result ≡ answers_of.cause_of outcome.now }
 {
@@ -279,43 +273,55 @@ fn same_cause(c: Cause, d: Cause) -> bool
     }
 }
 
-fn have_one_cause(a: &Outcome, b: &Outcome) -> bool
-    ensures { result ≡ where_some (answers_of.cause_of a.now) (λ c. where_some (answers_of.cause_of b.now) (answers_of.same_cause c)) }
+fn stop_cause(told: &[Answered], a: &Answered, b: &Answered) -> Option<Cause>
+    ensures { result ≡ outcomes.stop_cause told.now a.now b.now }
 {
-    match (cause_of(a), cause_of(b)) {
-        (Some(c), Some(d)) => same_cause(c, d),
-        _ => true,
+    if same_session(a, b) && (logs(&b.line.asks) || some_stops(b, told)) {
+        cause_of(&b.row.outcome)
+    } else {
+        None
     }
 }
 
-fn shares_cause(told: &[Answered], a: &Answered, b: &Answered) -> bool
-    ensures { result ≡ outcomes.shares_cause told.now a.now b.now }
-{
-    let both = same_session(a, b) && tells_why(told, a) && tells_why(told, b);
-    !both || have_one_cause(&a.row.outcome, &b.row.outcome)
-}
-
-fn all_share_cause(told: &[Answered], a: &Answered, rest: &[Answered]) -> bool
-    ensures { result ≡ list_all (outcomes.shares_cause told.now a.now) rest.now }
-{
-    rest.iter().all(|b| shares_cause(told, a, b))
-}
-
-fn some_share_cause(told: &[Answered], some: &[Answered]) -> bool
-    ensures { result ≡ each_pair (outcomes.shares_cause told.now) some.now }
+fn keep_cause(told: &[Answered], a: &Answered, cause: Cause, some: &[Answered]) -> bool
+    ensures { result ≡ list_all (answers_of.same_cause cause) (filter_map (outcomes.stop_cause told.now a.now) some.now) }
 {
     match some {
         [] => true,
-        [a, rest @ ..] => all_share_cause(told, a, rest) && some_share_cause(told, rest),
+        [b, rest @ ..] => match stop_cause(told, a, b) {
+            Some(other) => same_cause(cause, other) && keep_cause(told, a, cause, rest),
+            None => keep_cause(told, a, cause, rest),
+        },
     }
 }
 
-/// The open rows of a session that was stopped have one cause: its commands, and all its rows of later phases. In time that is the
-/// cube of the rows' number, where all are open.
-pub fn causes_are_kept(told: &[Answered]) -> bool
-    ensures { result ≡ each_pair (outcomes.shares_cause told.now) told.now }
+fn have_one_cause(told: &[Answered], a: &Answered, some: &[Answered]) -> bool
+    ensures { result ≡ each_pair answers_of.same_cause (filter_map (outcomes.stop_cause told.now a.now) some.now) }
 {
-    some_share_cause(told, told)
+    match some {
+        [] => true,
+        [b, rest @ ..] => match stop_cause(told, a, b) {
+            Some(cause) => keep_cause(told, a, cause, rest) && have_one_cause(told, a, rest),
+            None => have_one_cause(told, a, rest),
+        },
+    }
+}
+
+fn each_has_one_cause(told: &[Answered], some: &[Answered]) -> bool
+    ensures { result ≡ list_all (λ a. each_pair answers_of.same_cause (filter_map (outcomes.stop_cause told.now a) told.now)) some.now }
+{
+    match some {
+        [] => true,
+        [a, rest @ ..] => have_one_cause(told, a, told) && each_has_one_cause(told, rest),
+    }
+}
+
+/// The open rows of a session that was stopped have one cause: its commands, and all its rows of later phases. Slow, since it asks
+/// that of each row's session.
+pub fn causes_are_kept(told: &[Answered]) -> bool
+    ensures { result ≡ list_all (λ a. each_pair answers_of.same_cause (filter_map (outcomes.stop_cause told.now a) told.now)) told.now }
+{
+    each_has_one_cause(told, told)
 }
 
 fn is_kept_open(a: &Answered, b: &Answered) -> bool
@@ -377,6 +383,34 @@ pub fn reads_keep_order(told: &[Answered]) -> bool
     }
 }
 
+fn looks_forward(a: &Answered, b: &Answered) -> bool
+    ensures { result ≡ reads.looks_forward a.now b.now }
+{
+    if a.line.node != b.line.node {
+        return true;
+    }
+    match (looked_at(&a.row.outcome), looked_at(&b.row.outcome)) {
+        (Some(after), Some(later)) => after <= later,
+        _ => true,
+    }
+}
+
+fn all_look_forward(a: &Answered, rest: &[Answered]) -> bool
+    ensures { result ≡ list_all (reads.looks_forward a.now) rest.now }
+{
+    rest.iter().all(|b| looks_forward(a, b))
+}
+
+/// A node's reads don't fall along its lines.
+pub fn reads_dont_fall(told: &[Answered]) -> bool
+    ensures { result ≡ each_pair reads.looks_forward told.now }
+{
+    match told {
+        [] => true,
+        [a, rest @ ..] => all_look_forward(a, rest) && reads_dont_fall(rest),
+    }
+}
+
 fn looks_within(outcome: &Outcome, end: u64) -> bool
     ensures { result ≡ answers_of.on_read outcome.now (λ after. nat_le after end) }
 {
@@ -396,52 +430,39 @@ pub fn reads_are_within(told: &[Answered], end: u64) -> bool
     }
 }
 
-fn is_above(p: Place, outcome: &Outcome) -> bool
-    ensures { result ≡ outcomes.is_above p outcome.now }
+fn comes_below(outcome: &Outcome, position: u64) -> bool
+    ensures { result ≡ outcomes.comes_below outcome.now position }
 {
-    let placed = match place_on_time(outcome) {
-        Some(q) => p.pos < q.pos,
-        None => true,
-    };
-    let read = match looked_at(outcome) {
-        Some(after) => p.pos < after,
-        None => true,
-    };
-    placed && read
+    match outcome {
+        Outcome::Placed { place, late, .. } => *late || place.pos < position,
+        Outcome::Read { after, .. } => *after <= position,
+        Outcome::Extended { start, .. } => *start <= position,
+        _ => true,
+    }
 }
 
-fn is_not_below(after: u64, outcome: &Outcome) -> bool
-    ensures { result ≡ outcomes.is_not_below after outcome.now }
+// Where the log ended at most as the row's phase began.
+fn begins_upto(outcome: &Outcome) -> Option<u64>
+    ensures { result ≡ outcomes.begins_upto outcome.now }
 {
-    let placed = match place_on_time(outcome) {
-        Some(q) => after <= q.pos,
-        None => true,
-    };
-    let read = match looked_at(outcome) {
-        Some(later) => after <= later,
-        None => true,
-    };
-    placed && read
-}
-
-fn is_passed(a: &Answered, b: &Answered) -> bool
-    ensures { result ≡ outcomes.is_passed a.now b.now }
-{
-    let placed = match place_on_time(&a.row.outcome) {
-        Some(p) => is_above(p, &b.row.outcome),
-        None => true,
-    };
-    let read = match looked_at(&a.row.outcome) {
-        Some(after) => is_not_below(after, &b.row.outcome),
-        None => true,
-    };
-    placed && read
+    match outcome {
+        Outcome::Placed { place, .. } => Some(place.pos),
+        Outcome::Read { after, .. } => Some(*after),
+        Outcome::Extended { start, .. } => Some(*start),
+        _ => None,
+    }
 }
 
 fn keeps_barrier(a: &Answered, b: &Answered) -> bool
     ensures { result ≡ outcomes.keeps_barrier a.now b.now }
 {
-    !before_barrier(a, b) || is_passed(a, b)
+    if !before_barrier(a, b) {
+        return true;
+    }
+    match begins_upto(&b.row.outcome) {
+        Some(position) => comes_below(&a.row.outcome, position),
+        None => true,
+    }
 }
 
 fn all_keep_barrier(a: &Answered, rest: &[Answered]) -> bool
@@ -453,8 +474,8 @@ fn all_keep_barrier(a: &Answered, rest: &[Answered]) -> bool
     }
 }
 
-/// What is asked behind a barrier comes after all that was asked before it. Rows placed late aren't
-/// looked at.
+/// What is asked behind a barrier comes after all that was asked before it. A row placed late is before none, but after those of
+/// earlier phases.
 pub fn keeps_barriers(told: &[Answered]) -> bool
     ensures { result ≡ outcomes.keeps_barriers told.now }
 {
@@ -465,14 +486,14 @@ pub fn keeps_barriers(told: &[Answered]) -> bool
 }
 
 fn stands_apart(a: &Act, b: &Act) -> bool
-    ensures { result ≡ acts_of.stand_apart a.now b.now }
+    ensures { result ≡ turns_of.stand_apart a.now b.now }
 {
     let at_one_place = a.place.pos == b.place.pos && a.place.sub == b.place.sub;
     !at_one_place || a.session == b.session
 }
 
 fn all_stand_apart(a: &Act, rest: &[Act]) -> bool
-    ensures { result ≡ list_all (acts_of.stand_apart a.now) rest.now }
+    ensures { result ≡ list_all (turns_of.stand_apart a.now) rest.now }
 {
     match rest {
         [] => true,
@@ -480,9 +501,34 @@ fn all_stand_apart(a: &Act, rest: &[Act]) -> bool
     }
 }
 
+fn rises_in_rank(a: &Act, b: &Act) -> bool
+    ensures { result ≡ turns_of.rises_in_rank a.now b.now }
+{
+    a.session != b.session || a.rank.number() < b.rank.number()
+}
+
+fn all_rise_in_rank(a: &Act, rest: &[Act]) -> bool
+    ensures { result ≡ list_all (turns_of.rises_in_rank a.now) rest.now }
+{
+    match rest {
+        [] => true,
+        [b, more @ ..] => rises_in_rank(a, b) && all_rise_in_rank(a, more),
+    }
+}
+
+/// Of one session the earlier of two acts has the lower rank.
+pub fn ranks_rise(acts: &[Act]) -> bool
+    ensures { result ≡ each_pair turns_of.rises_in_rank acts.now }
+{
+    match acts {
+        [] => true,
+        [a, rest @ ..] => all_rise_in_rank(a, rest) && ranks_rise(rest),
+    }
+}
+
 /// No two sessions have one place.
 pub fn stand_apart(acts: &[Act]) -> bool
-    ensures { result ≡ each_pair acts_of.stand_apart acts.now }
+    ensures { result ≡ each_pair turns_of.stand_apart acts.now }
 {
     match acts {
         [] => true,
@@ -492,7 +538,7 @@ pub fn stand_apart(acts: &[Act]) -> bool
 
 // How many of these acts are the session's.
 fn number_of(session: SessionId, acts: &[Act]) -> u64
-    ensures { result ≡ acts_of.number_of session acts.now }
+    ensures { result ≡ turns_of.number_of session acts.now }
 {
     let mut count = 0;
     for act in acts {
@@ -504,14 +550,14 @@ fn number_of(session: SessionId, acts: &[Act]) -> u64
 }
 
 fn is_among_first(act: &Act, acts: &[Act]) -> bool
-    ensures { result ≡ nat_le 1 act.now.rank && nat_le act.now.rank (acts_of.number_of act.now.session acts.now) }
+    ensures { result ≡ nat_le 1 act.now.rank && nat_le act.now.rank (turns_of.number_of act.now.session acts.now) }
 {
     let rank = act.rank.number();
     1 <= rank && rank <= number_of(act.session, acts)
 }
 
 fn are_among_first(some: &[Act], acts: &[Act]) -> bool
-    ensures { result ≡ list_all (λ a. nat_le 1 a.rank && nat_le a.rank (acts_of.number_of a.session acts.now)) some.now }
+    ensures { result ≡ list_all (λ a. nat_le 1 a.rank && nat_le a.rank (turns_of.number_of a.session acts.now)) some.now }
 {
     match some {
         [] => true,
@@ -522,7 +568,7 @@ fn are_among_first(some: &[Act], acts: &[Act]) -> bool
 /// Each rank is at most the number of its session's acts, in time that is the square of the acts'
 /// number.
 pub fn has_first_ranks(acts: &[Act]) -> bool
-    ensures { result ≡ acts_of.has_first_ranks acts.now }
+    ensures { result ≡ turns_of.has_first_ranks acts.now }
 {
     are_among_first(acts, acts)
 }

@@ -13,15 +13,6 @@ use delos_types::numbers::NodeId;
 use row_text::row::Outcome;
 use script_text::asks::NamedLine;
 
-fn version_made(outcome: &Outcome) -> Option<u64>
-    ensures { result ≡ replacements.version_made outcome.now }
-{
-    match outcome {
-        Outcome::Extended { version, .. } => Some(*version),
-        _ => None,
-    }
-}
-
 fn start_made(outcome: &Outcome) -> Option<u64>
     ensures { result ≡ replacements.start_made outcome.now }
 {
@@ -55,28 +46,38 @@ pub(crate) fn is_behind(a: &Answered, b: &Answered) -> bool
     a.line.node == b.line.node || a.line.phase < b.line.phase
 }
 
-fn makes_another(a: &Answered, b: &Answered) -> bool
-    ensures { result ≡ replacements.makes_another a.now b.now }
+fn make_in_order(a: &Outcome, b: &Outcome) -> bool
+    ensures { result ≡ replacements.make_in_order a.now b.now }
 {
-    match (version_made(&a.row.outcome), version_made(&b.row.outcome)) {
-        (Some(v), Some(w)) => v != w,
+    match (a, b) {
+        (
+            Outcome::Extended {
+                version: v,
+                start: s,
+            },
+            Outcome::Extended {
+                version: w,
+                start: t,
+            },
+        ) => (v < w && s <= t) || (w < v && t <= s),
         _ => true,
     }
 }
 
-fn all_make_others(a: &Answered, rest: &[Answered]) -> bool
-    ensures { result ≡ list_all (replacements.makes_another a.now) rest.now }
+fn all_make_in_order(a: &Answered, rest: &[Answered]) -> bool
+    ensures { result ≡ list_all (λ b. replacements.make_in_order a.now.row.outcome b.row.outcome) rest.now }
 {
-    rest.iter().all(|b| makes_another(a, b))
+    rest.iter()
+        .all(|b| make_in_order(&a.row.outcome, &b.row.outcome))
 }
 
-/// No two lines made one version of the chain.
-pub fn versions_differ(told: &[Answered]) -> bool
-    ensures { result ≡ each_pair replacements.makes_another told.now }
+/// No two lines made one version of the chain, and the segment of the lower version doesn't begin above that of the higher.
+pub fn versions_are_in_order(told: &[Answered]) -> bool
+    ensures { result ≡ each_pair (λ a b. replacements.make_in_order a.row.outcome b.row.outcome) told.now }
 {
     match told {
         [] => true,
-        [a, rest @ ..] => all_make_others(a, rest) && versions_differ(rest),
+        [a, rest @ ..] => all_make_in_order(a, rest) && versions_are_in_order(rest),
     }
 }
 
@@ -244,4 +245,16 @@ pub fn shelf_is_spent(chain: &Chain, shelf: usize, told: &[Answered]) -> bool
     ensures { result ≡ list_all (replacements.is_spent chain.now shelf) told.now }
 {
     told.iter().all(|a| is_spent(chain, shelf, a))
+}
+
+/// Each version behind the first has a loglet of its own, but for those that trimmed the log; and a segment, where none did.
+pub fn versions_go_by_ones(version: u64, chain: &Chain) -> bool
+    ensures { result ≡ replacements.goes_by_ones version chain.now }
+{
+    let last = u64::from(last_id(chain));
+    if chain.trim == 0 {
+        version == last + 1 && chain.segments.as_slice().len() as u64 == last + 1
+    } else {
+        last + 2 <= version
+    }
 }

@@ -90,6 +90,7 @@ fn is_from(position: u64, outcome: &Outcome) -> bool
     match outcome {
         Outcome::Placed { place, .. } => position <= place.pos,
         Outcome::Read { after, .. } => position <= *after,
+        Outcome::Alive { clean } => position <= *clean,
         _ => true,
     }
 }
@@ -112,7 +113,7 @@ fn all_stay_above(a: &Answered, rest: &[Answered]) -> bool
     rest.iter().all(|b| stays_above(a, b))
 }
 
-/// Behind a report, in later lines of its node and in later phases, each place and each read's position is at it or above.
+/// Behind a report, in later lines of its node and in later phases, each place, each read's position and each report is at it or above.
 pub fn rows_stay_above(told: &[Answered]) -> bool
     ensures { result ≡ each_pair reports.stays_above told.now }
 {

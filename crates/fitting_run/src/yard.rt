@@ -13,6 +13,9 @@ use std::alloc::{AllocError, Global};
 /// What is read of a loglet of the shelf.
 #[derive(Drop)]
 pub struct CellShown {
+    pub servers: u64,
+    /// The fewest servers whose silence may leave an operation without its answer.
+    pub quorum: u64,
     /// The greatest length of its log.
     pub room: u64,
     /// How many operations may be begun.
@@ -54,8 +57,8 @@ pub(crate) fn last_segment(segments: &[Segment]) -> Segment
     }
 }
 
-// Where the log ends that these loglets show; None where that is at 2^64 or above.
-fn tail(chain: &Chain, cells: &[CellShown]) -> Option<u64>
+/// Where the log ends that these loglets show; None where that is at 2^64 or above.
+pub fn tail(chain: &Chain, cells: &[CellShown]) -> Option<u64>
     ensures { MatchOption result (2 ^ 64 ≤ virtual.virtual_tail chain.now (map cell_of cells.now)) (λ tail. tail ≡ virtual.virtual_tail chain.now (map cell_of cells.now)) }
 {
     let last = last_segment(chain.segments.as_slice());

@@ -25,15 +25,15 @@ use Rattle.node_course.specs.Moments.{NodeCourse, GoesOn, moment, at_node}
 use Rattle.node_course.specs.Played.{Came, went_further}
 use Rattle.node_course.specs.Course.{IsCourse}
 use Rattle.node_course.specs.Replacing.{Replaced}
-use Rattle.node_course.specs.Telling.{AreTold, HasToldSo, IsTrim, AsksBehind}
+use Rattle.node_course.specs.Telling.{AreAsked, AreTold, HasToldSo, IsTrim, AsksBehind}
 use Rattle.node_course.proofs.Events.{faults_on}
 use Rattle.node_course.specs.Behind.{ReportsHold}
 use Rattle.node_course.proofs.Held.{hold_on}
 use Rattle.node_course.proofs.Lines.{count-cons}
-use Rattle.node_course.proofs.Looks.{CameBack}
+use Rattle.node_course.proofs.Looks.{CameBack, CameOn}
 use Rattle.node_course.proofs.Moments.{moment_now}
 use Rattle.node_course.proofs.Growing.{Grown, grown_of}
-use Rattle.node_course.proofs.Told.{stand_then, trim_on}
+use Rattle.node_course.proofs.Told.{asked_still, stand_then, trim_on}
 use Rattle.node_course.proofs.Replacing.{replaced_on}
 
 -- Counting
@@ -101,7 +101,12 @@ module _ (law : Law) (lines : List NamedLine) (nodes n : ℕ) (c : NodeCourse) (
         let upto : p ≤ c.phase = omega (arith, low, goes.phase) in
         ok.began p s r e upto (subst (λ m. Contains (appended_by n m) e) (grown.past p upto) there) has
 
-    module _ (here : AllByRecursion (λ f. f.node ≡ n) c'.faults) (looks' : List (Option Looked)) where
+    module _ (here : AllByRecursion (λ f. f.node ≡ n) c'.faults) (looks' : List (Option Looked)) (on : CameOn lines looks looks' n) where
+      asked : (p : ℕ) → p ≤ c'.phase → AreAsked lines looks' n (λ i l. l.phase < p) (moment c' p)
+      asked p low =
+          let upto : p ≤ c.phase = omega (arith, low, goes.phase) in
+          subst (AreAsked lines looks' n (λ i l. l.phase < p)) (sym (grown.past p upto)) (asked_still lines looks looks' n (λ i l. l.phase < p) (moment c p) on (ok.asked p upto))
+
       -- What the node did then: what its lines paid, and what came, its new events told.
       pub advance : length looks' ≡ length looks
           → ((kind : Cause → Bool) → kind cause.Store ≡ false → failed_looks (at_node n kind) lines looks' + count_by (λ f. kind f.cause) c'.faults ≤ count_by kind (faults_of n c'.seen))
@@ -125,6 +130,7 @@ module _ (law : Law) (lines : List NamedLine) (nodes n : ℕ) (c : NodeCourse) (
         replaced = replaced;
         seals = seals;
         told = told;
+        asked = asked;
         behind = behind;
         stand = stand;
         trims = trims;
@@ -142,7 +148,7 @@ module _ (law : Law) (lines : List NamedLine) (nodes n : ℕ) (c : NodeCourse) (
           (λ i l look come. stand_then law c c' grown lines looks looks' nodes n l look (ok.stand i l look (back i l look come)))
           (λ j l trim come.
           let was = back j l (looked.Trimmed trim) come in
-          trim_on law c c' grown lines looks looks' nodes n j l trim (ok.ahead j l (looked.Trimmed trim) was) (λ i m look come' before. back i m look come') (ok.trims j l trim was))
+          trim_on law c c' grown lines looks looks' nodes n on j l trim (ok.ahead j l (looked.Trimmed trim) was) (λ i m look come' before. back i m look come') (ok.trims j l trim was))
           (hold_on law c c' grown lines looks looks' n back ok.reports)
 
   -- It made events of its own.
@@ -220,8 +226,8 @@ count_stores n (k ∷ ks) =
 pub stores_counted : (lines : List NamedLine) (n phase : ℕ) (faults : List Fault) (looks looks' : List (Option Looked)) (came paid causes : List Cause) (before after : ℕ)
     → ((P : Cause → Bool) → count_by P came + count_by P paid ≡ count_by P causes) → failed_looks (lacks_store n) lines looks' ≡ failed_looks (lacks_store n) lines looks + count_by (lacks_store n n) paid
     → Rises (count_by is_store causes) before after
-    → min (failed_looks (lacks_store n) lines looks + count_by (λ f. lacks_store n f.node f.cause) faults) most_faults ≤ min before most_faults
-    → min (failed_looks (lacks_store n) lines looks' + count_by (λ f. lacks_store n f.node f.cause) (faults ++ map (fault_at n phase) came)) most_faults ≤ min after most_faults
+    → min (failed_looks (lacks_store n) lines looks + count_by (λ f. lacks_store n f.node f.cause) faults + 1) most_faults ≤ min before most_faults
+    → min (failed_looks (lacks_store n) lines looks' + count_by (λ f. lacks_store n f.node f.cause) (faults ++ map (fault_at n phase) came) + 1) most_faults ≤ min after most_faults
 stores_counted lines n phase faults looks looks' came paid causes before after all looked rose was =
     let a = count-append (λ (f : Fault). lacks_store n f.node f.cause) faults (map (fault_at n phase) came) in
     let b = count_came n phase (lacks_store n) came in

@@ -17,6 +17,7 @@ use Rattle.node_lines.proofs.Own.{own_may}
 use Rattle.run_laws.specs.Ended.{CameTo, session_in}
 use Rattle.node_course.specs.Script.{BeginsAt, asked_before}
 use Rattle.node_course.specs.Moments.{NodeCourse, moment, next_phase}
+use Rattle.node_course.specs.Telling.{AreAsked}
 use Rattle.node_course.specs.Course.{IsCourse}
 use Rattle.node_course.specs.Workers.{Rests}
 use Rattle.node_course.proofs.Asking.{asked_early}
@@ -26,7 +27,7 @@ use Rattle.node_course.proofs.Moments.{moment_next, moment_now}
 use Rattle.node_course.proofs.Sent.{sent_low}
 use Rattle.node_course.proofs.Growing.{Grown, desk_same, ended_grows, grown_next, played_grows}
 use Rattle.node_course.proofs.Replacing.{replaced_on}
-use Rattle.node_course.proofs.Told.{stand_then, trim_on}
+use Rattle.node_course.proofs.Told.{stand_then, told_asked, trim_on}
 
 module _ (law : Law) (meaning : Meaning) (lines : List NamedLine) (home : ℕ → ℕ) (nodes : ℕ) (c : NodeCourse) (looks : List (Option Looked)) (n from : ℕ) (seat : SeatView) (desks : List Desk) (begins : BeginsAt lines from (c.phase + 1)) (r : Rests law meaning lines home nodes c looks n from (c.phase + 1) seat desks) where
   abbrev then' : NodeCourse
@@ -66,6 +67,15 @@ module _ (law : Law) (meaning : Meaning) (lines : List NamedLine) (home : ℕ �
           let same : c.phase + 1 ≡ p = omega (arith, low, high) in
           subst (λ k. q ≤ asked_before lines s k) same (now s q e (subst (λ m. Contains (appended_by n m) e) (moment_now c p (let long = ok.long in omega (arith, high, long))) was) has)
 
+  asked : (p : ℕ) → p ≤ c.phase + 1 → AreAsked lines looks n (λ i l. l.phase < p) (moment then' p)
+  asked p low = subst (AreAsked lines looks n (λ i l. l.phase < p)) (sym (moment_next c p)) (by (cases_lt c.phase p))
+    where
+      by : (c.phase < p) ⊎ (p ≤ c.phase) → AreAsked lines looks n (λ i l. l.phase < p) (moment c p)
+      by (inr old) = ok.asked p old
+      by (inl high) =
+          subst (AreAsked lines looks n (λ i l. l.phase < p)) (sym (moment_now c p (let long = ok.long in omega (arith, high, long))))
+          (told_asked lines looks n (λ i l. l.phase < p) c.seen (λ i l look come other. let early = ok.ahead i l look come in omega (arith, early, high)) ok.told)
+
   did : IsCourse law lines nodes n then' looks
   did = record {
     legal = ok.legal;
@@ -79,10 +89,11 @@ module _ (law : Law) (meaning : Meaning) (lines : List NamedLine) (home : ℕ �
     replaced = replaced_on law c then' grown lines looks n ok.ahead ok.replaced looks (λ i l look come. come) refl;
     seals = ok.seals;
     told = ok.told;
+    asked = asked;
     behind = ok.behind;
     stand = λ i l look come. stand_then law c then' grown lines looks looks nodes n l look (ok.stand i l look come);
     reports = hold_on law c then' grown lines looks looks n (λ i l look come. come) ok.reports;
-    trims = λ j l trim come. trim_on law c then' grown lines looks looks nodes n j l trim (ok.ahead j l (looked.Trimmed trim) come) (λ i m look come' low. come') (ok.trims j l trim come);
+    trims = λ j l trim come. trim_on law c then' grown lines looks looks nodes n (λ i m look come'. come') j l trim (ok.ahead j l (looked.Trimmed trim) come) (λ i m look come' low. come') (ok.trims j l trim come);
   }
 
   -- Between two phases nothing is halted, and nothing was given.

@@ -3,12 +3,15 @@ use Rattle.std.proofs.Common.{◌≡◌, subst, ⊎_elim, ℕ, ◌+◌, ◌<◌,
 use Rattle.std.proofs.lemmas.Bool.{cases_lt}
 use Rattle.delos_types.specs.declared.entry.Entry.{Entry}
 use Rattle.table_core.specs.declared.command.Found.{Found}
+use Rattle.table_core.specs.declared.command.Query.{Query}
 use Rattle.legal_journal.specs.Law.{Law}
 use Rattle.legal_journal.specs.Journal.{IsLegal, state_of, tail_of}
 use Rattle.journal_laws.proofs.Changes.{held_appended}
 use Rattle.virtual_log.specs.Holding.{Holds}
 use Rattle.turn_scopes.proofs.Moments.{held_before}
+use Rattle.script_text.specs.declared.line.Session.{Session}
 use Rattle.script_text.specs.declared.asks.NamedLine.{NamedLine}
+use Rattle.script_text.specs.declared.asks.Asks.TheVariants as asks
 use Rattle.fitting_run.specs.Lines.{logs_for}
 use Rattle.node_lines.specs.declared.lines.Looked.{Looked}
 use Rattle.node_lines.specs.declared.lines.Looked.TheVariants as looked
@@ -34,6 +37,18 @@ module _ (law : Law) (lines : List NamedLine) (home : ℕ → ℕ) (nodes : ℕ)
   read_high n i j l m position after found come then' low =
       let there = node_there law lines home nodes run looks courses are join n i l (looked.Reported position) come in
       (join.did n there.0 there.1).reports.reads i j l m position after found come then' low
+
+  -- a node's later read looks at no lower position
+  pub read_forward : (n i j : ℕ) (l m : NamedLine) (s : Session) (query : Query) (after later : ℕ) (found next : Found) → Came lines looks n i l (looked.Found after found) → Came lines looks n j m (looked.Found later next) → l.asks ≡ asks.Look s query → i < j
+      → after ≤ later
+  read_forward n i j l m s query after later found next come then' asks_is low =
+      let there = node_there law lines home nodes run looks courses are join n i l (looked.Found after found) come in
+      (join.did n there.0 there.1).reports.forward i j l m s query after later found next come then' asks_is low
+
+  pub report_high : (n i j : ℕ) (l m : NamedLine) (position later : ℕ) → Came lines looks n i l (looked.Reported position) → Came lines looks n j m (looked.Reported later) → i < j → position ≤ later
+  report_high n i j l m position later come then' low =
+      let there = node_there law lines home nodes run looks courses are join n i l (looked.Reported position) come in
+      (join.did n there.0 there.1).reports.again i j l m position later come then' low
 
 module _ (law : Law) (low : (log : List Entry) (n : ℕ) → law.floor log n → n ≤ length log) (lines : List NamedLine) (home : ℕ → ℕ) (nodes : ℕ) (run : NodeCourse) (looks : List (Option Looked)) (courses : ℕ → NodeCourse) (are : AreLines lines home nodes) (join : AreJoined law lines home nodes run looks courses) where
   -- a line that reported, by the run's moments

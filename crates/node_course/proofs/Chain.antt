@@ -13,7 +13,8 @@ use Rattle.legal_journal.specs.Laws.{Continues}
 use Rattle.legal_journal.specs.Sealing.{own_seals}
 use Rattle.legal_journal.proofs.Log.{next, Joined}
 use Rattle.legal_journal.proofs.Legal.{sound, legal_front, goes_on}
-use Rattle.legal_journal.proofs.Taken.{took}
+use Rattle.legal_journal.proofs.Sound.{open_tail}
+use Rattle.legal_journal.proofs.Taken.{Took, took}
 use Rattle.journal_laws.specs.Versions.{IsFurther, refusal, write}
 use Rattle.journal_laws.proofs.Writing.{refused}
 use Rattle.virtual_log.specs.declared.extend.Extension.{Extension}
@@ -24,9 +25,10 @@ use Rattle.virtual_log.specs.Turning.{HasEvent}
 use Rattle.virtual_log.specs.Writing.{IsAnothers}
 use Rattle.node_lines.specs.Chains.{GoesFurther}
 use Rattle.node_lines.proofs.Chains.{begun_stands}
-use Rattle.node_course.specs.Replacing.{HasWritten, IsPassed, IsReplaced}
+use Rattle.node_course.specs.Replacing.{HasWritten, IsPassed, IsReplaced, WasSoLong}
 use Rattle.node_course.proofs.Events.{seals_on, seals_others}
 use Rattle.node_course.proofs.Replacing.{passed_within}
+use Rattle.node_course.proofs.Starts.{begins_high}
 
 -- the last segment of a chain that was extended, where that has one
 last_extended : (es : ℕ → List ℕ) (i a : ℕ) (ss : List Segment) (t : ℕ) → Joined es i a (extended_segments ss t) → last_of_segments (extended_segments ss t) ≡ next (last_of_segments ss) t
@@ -74,28 +76,62 @@ module _ (law : Law) (who : ℕ) (early settled new : List Event) (known known' 
     whole_is : new ≡ (e.looked ++ w.event.before) ++ event ∷ w.event.after
     whole_is = w.event.seen ∙ ap (λ (y : Event). (e.looked ++ w.event.before) ++ y ∷ w.event.after) w.event.is
 
-    written_so : HasWritten who version new
-    written_so = record { expected = w.expected; chain = extended w.before w.at; before = e.looked ++ w.event.before; after = w.event.after; seen = whole_is }
+    seen : new ≡ wrote ++ w.event.after
+    seen = whole_is ∙ sym (append_assoc (e.looked ++ w.event.before) (event ∷ []) w.event.after)
+
+    front : IsLegal law wrote
+    front = legal_front law wrote w.event.after (subst (IsLegal law) seen legal)
+
+    its : Took law e.looked w.event.before event wrote
+    its = took law e.looked w.event.before event wrote front refl
+
+    to_new : Continues (state_of wrote) (state_of new)
+    to_new = subst (λ es. Continues (state_of wrote) (state_of es)) (sym seen) (goes_on law wrote w.event.after (subst (IsLegal law) seen legal))
+
+    chain_is : (state_of wrote).register.chain ≡ extended w.before w.at
+    chain_is = ap (λ (y : State). y.register.chain) its.now
+
+    -- its last segment
+    last : last_segment (extended w.before w.at) ≡ next (last_segment e.chain) w.at
+    last =
+        let joined = subst (λ (c : Chain). Joined (ends (state_of wrote).cells) its.now_ok.id its.now_ok.from c.segments) chain_is its.now_ok.joined in
+        last_extended (ends (state_of wrote).cells) its.now_ok.id its.now_ok.from w.before.segments w.at joined ∙ ap (λ (s : Segment). next s w.at) w.last_is
+
+    begins : (last_segment (extended w.before w.at)).start ≡ start
+    begins = ap (λ (s : Segment). s.start) last ∙ sym w.start_is
+
+    start_is : (last_segment (state_of wrote).register.chain).start ≡ start
+    start_is = ap (λ (c : Chain). (last_segment c).start) chain_is ∙ begins
+
+    id_is : last_id (state_of wrote).register.chain ≡ last_id e.chain + 1
+    id_is = ap (λ (c : Chain). last_id c) chain_is ∙ ap (λ (s : Segment). s.id) last
+
+    started : (state_of new).starts (last_id (state_of wrote).register.chain) ≡ Some start
+    started = to_new.starts (last_id (state_of wrote).register.chain) (last_segment (state_of wrote).register.chain).start its.now_ok.last ∙ ap (λ n. Some n) start_is
+
+    written_so : HasWritten who version start new
+    written_so = record { expected = w.expected; chain = extended w.before w.at; begins = begins; before = e.looked ++ w.event.before; after = w.event.after; seen = whole_is }
 
     further_so : GoesFurther (state_of early).register (state_of new).register version start
     further_so =
-        let seen : new ≡ wrote ++ w.event.after = whole_is ∙ sym (append_assoc (e.looked ++ w.event.before) (event ∷ []) w.event.after) in
-        let whole = subst (IsLegal law) seen legal in
-        let front = legal_front law wrote w.event.after whole in
-        let k = took law e.looked w.event.before event wrote front refl in
-        let to_new = subst (λ es. Continues (state_of wrote) (state_of es)) (sym seen) (goes_on law wrote w.event.after whole) in
-        let version_is : (state_of wrote).register.version ≡ version = ap (λ (y : State). y.register.version) k.now in
-        let chain_is : (state_of wrote).register.chain ≡ extended w.before w.at = ap (λ (y : State). y.register.chain) k.now in
-        let joined = subst (λ (c : Chain). Joined (ends (state_of wrote).cells) k.now_ok.id k.now_ok.from c.segments) chain_is k.now_ok.joined in
-        let last : last_segment (state_of wrote).register.chain ≡ next (last_segment e.chain) w.at =
-        ap (λ (c : Chain). last_segment c) chain_is ∙ (last_extended (ends (state_of wrote).cells) k.now_ok.id k.now_ok.from w.before.segments w.at joined ∙ ap (λ (s : Segment). next s w.at) w.last_is) in
-        let start_is : (last_segment (state_of wrote).register.chain).start ≡ start = ap (λ (s : Segment). s.start) last ∙ sym w.start_is in
-        let at = to_new.starts (last_id (state_of wrote).register.chain) (last_segment (state_of wrote).register.chain).start k.now_ok.last in
+        let version_is : (state_of wrote).register.version ≡ version = ap (λ (y : State). y.register.version) its.now in
         record {
-          above = omega (arith, to_looked.version, k.before.version, k.allowed.1, k.allowed.3);
+          above = omega (arith, to_looked.version, its.before.version, its.allowed.1, its.allowed.3);
           within = omega (arith, version_is, to_new.version);
-          next = omega (arith, to_looked.last, ap last_id looked_chain, ap (λ (s : Segment). s.id) last, to_new.last);
-          started = begun_stands law (state_of new) (sound law new legal) (last_id (state_of wrote).register.chain) start (at ∙ ap (λ n. Some n) start_is);
+          next = omega (arith, to_looked.last, ap last_id looked_chain, id_is, to_new.last);
+          started = begun_stands law (state_of new) (sound law new legal) (last_id (state_of wrote).register.chain) start started;
+        }
+
+    -- it begins at no lower position than the log had of the loglets before, and at none that it hadn't as it was written
+    reached_so : WasSoLong early new start
+    reached_so =
+        let early_is = legal_front law early (to_look ++ e.rest) (subst (IsLegal law) (e.seen ∙ ap (λ l. l ++ e.rest) looked_since ∙ append_assoc early to_look e.rest) legal) in
+        let to_new' = subst (λ es. Continues (state_of early) (state_of es)) (sym (e.seen ∙ ap (λ l. l ++ e.rest) looked_since ∙ append_assoc early to_look e.rest))
+        (goes_on law early (to_look ++ e.rest) (subst (IsLegal law) (e.seen ∙ ap (λ l. l ++ e.rest) looked_since ∙ append_assoc early to_look e.rest) legal)) in
+        let tail = open_tail (length law.shelf) (state_of wrote) its.now_ok in
+        record {
+          from = begins_high law early new early_is legal to_new' (last_id (state_of wrote).register.chain) start started (omega (arith, to_looked.last, ap last_id looked_chain, id_is));
+          upto = omega (arith, tail, start_is, to_new.tail);
         }
 
   -- An own write that was refused
@@ -139,8 +175,11 @@ module _ (law : Law) (who : ℕ) (early settled new : List Event) (known known' 
 
 pub replaced_so : (law : Law) (who : ℕ) (early settled new : List Event) (known known' v' : ℕ) → IsLegal law new → SealsNone who early settled
     → (x : Extension) → IsExtension (length law.shelf) who settled known known' v' new x → IsReplaced (length law.shelf) who early new x
-replaced_so law who early settled new known known' v' legal still (Extended version start) e =
-    (further_so law who early settled new known known' v' legal still (Extended version start) e version start e.follows.1.0, written_so law who early settled new known known' v' legal still (Extended version start) e version start e.follows.1.0)
+replaced_so law who early settled new known known' v' legal still (Extended version start) e = (
+  further_so law who early settled new known known' v' legal still (Extended version start) e version start e.follows.1.0,
+  written_so law who early settled new known known' v' legal still (Extended version start) e version start e.follows.1.0,
+  reached_so law who early settled new known known' v' legal still (Extended version start) e version start e.follows.1.0,
+)
 replaced_so law who early settled new known known' v' legal still (Moved version) e =
     (moved_so law who early settled new known known' v' legal still (Moved version) e version e.follows.1.0.refused, passed_so law who early settled new known known' v' legal still (Moved version) e e.follows.1.0.another)
 replaced_so law who early settled new known known' v' legal still NoSpare e =

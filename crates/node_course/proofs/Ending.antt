@@ -27,7 +27,7 @@ use Rattle.fitting_run.specs.Lines.{is_of, logs_for}
 use Rattle.turn_scopes.specs.Seats.{SeatView, node_of}
 use Rattle.node_lines.specs.declared.desk.Desk.{Desk}
 use Rattle.node_lines.specs.declared.lines.Looked.{Looked}
-use Rattle.node_lines.specs.Moving.{causes_of}
+use Rattle.node_lines.specs.Moving.{causes_of, strikes}
 use Rattle.node_lines.specs.Lines.{Stopped, failure_in}
 use Rattle.node_lines.specs.Turns.{ClosesIt, EndsTurn}
 use Rattle.node_lines.proofs.Turning.{ends_quiet, same_at, was_at}
@@ -130,8 +130,8 @@ module _ (law : Law) (meaning : Meaning) (run : MayRun law) (lines : List NamedL
   cursor_is : does.mid.replica.cursor ≡ seat'.node.replica.cursor
   cursor_is = ap (λ (v : NodeView). v.replica.cursor) (sym does.forgets)
 
-  faults_are : does.mid.replica.faults ≡ seat'.node.replica.faults
-  faults_are = ap (λ (v : NodeView). v.replica.faults) (sym does.forgets)
+  strikes_are : strikes does.mid.replica ≡ strikes seat'.node.replica
+  strikes_are = ap (λ (v : NodeView). strikes v.replica) (sym does.forgets)
 
   given_is : seat'.node.outbox.given ≡ []
   given_is = ap (λ (v : NodeView). v.outbox.given) does.forgets
@@ -433,8 +433,8 @@ module _ (law : Law) (meaning : Meaning) (run : MayRun law) (lines : List NamedL
     waiting = before.waiting;
     played = played;
     reports = tells.own before.reports;
-    stores = stores_counted lines n c.phase c.faults looks looks came [] came seat.node.replica.faults seat'.node.replica.faults (λ P. let e : count_by P came + 0 ≡ count_by P came = omega arith in e) (omega arith)
-        (let rose = does.ends.moves.goes.spends.disk in omega (arith, rose, faults_are)) before.stores;
+    stores = stores_counted lines n c.phase c.faults looks looks came [] came (strikes seat.node.replica) (strikes seat'.node.replica) (λ P. let e : count_by P came + 0 ≡ count_by P came = omega arith in e) (omega arith)
+        (let rose = does.ends.moves.goes.spends.disk in omega (arith, rose, strikes_are)) before.stores;
   }
 
   pub phase_ended : HasRested law meaning lines home nodes c looks n to (c.phase + 1) journal seat' desks'

@@ -12,7 +12,7 @@ use Rattle.script_text.specs.declared.asks.NamedLine.{NamedLine}
 use Rattle.turn_scopes.specs.Seats.{SeatView, node_of}
 use Rattle.node_lines.specs.declared.desk.Desk.{Desk}
 use Rattle.node_lines.specs.declared.lines.Looked.{Looked}
-use Rattle.node_lines.specs.Moving.{Moves}
+use Rattle.node_lines.specs.Moving.{Moves, strikes}
 use Rattle.node_lines.specs.Workers.{IsOfSessions, MayRun, OwnAdds, OwnWithin, WorkerOk, sent_by}
 use Rattle.run_laws.specs.Ended.{CameTo, session_in}
 use Rattle.node_course.specs.Script.{BeginsAt}
@@ -83,7 +83,7 @@ module _ (law : Law) (meaning : Meaning) (run : MayRun law) (lines : List NamedL
         waiting = r.node.waiting;
         played = played;
         reports = tells.own r.node.reports;
-        stores = stores_counted lines n c.phase c.faults looks looks [] [] [] seat.node.replica.faults seat'.node.replica.faults (λ P. refl) (omega arith) (let up = moves.goes.keeps.counts in omega (arith, up)) r.node.stores;
+        stores = stores_counted lines n c.phase c.faults looks looks [] [] [] (strikes seat.node.replica) (strikes seat'.node.replica) (λ P. refl) (omega arith) (let up = moves.goes.spends.disk in omega (arith, up)) r.node.stores;
       };
       none_given = none_given;
     };

@@ -23,4 +23,6 @@ module _ (law : Law) (c c' : NodeCourse) (g : Grown law c c') (lines : List Name
   hold_on back h = record {
     each = λ i l position come. reported_on i l.phase position (h.each i l position (back i l (looked.Reported position) come));
     reads = λ i j l m position after found come then' low. h.reads i j l m position after found (back i l (looked.Reported position) come) (back j m (looked.Found after found) then') low;
+    forward = λ i j l m s query after later found next come then' look low. h.forward i j l m s query after later found next (back i l (looked.Found after found) come) (back j m (looked.Found later next) then') look low;
+    again = λ i j l m position later come then' low. h.again i j l m position later (back i l (looked.Reported position) come) (back j m (looked.Reported later) then') low;
   }

@@ -1,4 +1,5 @@
 pub mod Advance
+pub mod Allowed
 pub mod Asked
 pub mod Asking
 pub mod Beginning
@@ -36,6 +37,7 @@ pub mod Seals
 pub mod Segments
 pub mod Sent
 pub mod Stands
+pub mod Starts
 pub mod Staying
 pub mod Still
 pub mod Stood

@@ -19,7 +19,7 @@ use Rattle.fabric_core.proofs.Marks.{set_other, set_same}
 use Rattle.turn_scopes.specs.Seats.{SeatView, node_of}
 use Rattle.node_lines.specs.declared.desk.Desk.{Desk}
 use Rattle.node_lines.specs.declared.lines.Looked.{Looked}
-use Rattle.node_lines.specs.Moving.{IsQuiet, causes_of}
+use Rattle.node_lines.specs.Moving.{IsQuiet, causes_of, strikes}
 use Rattle.node_lines.specs.Workers.{IsOfSessions, Logs, MayRun, OwnAdds, WorkerOk}
 use Rattle.run_laws.specs.Ended.{IsAtHome, session_in}
 use Rattle.run_laws.proofs.Members.{among-right, contained-among}
@@ -197,7 +197,7 @@ module _ (law : Law) (meaning : Meaning) (run : MayRun law) (lines : List NamedL
     waiting = λ j l high get there. before.waiting j l (omega (arith, high)) get there;
     played = played;
     reports = tells.own before.reports;
-    stores = stores_counted lines n c.phase c.faults looks looks came [] came seat.node.replica.faults seat'.node.replica.faults (λ P. let e : count_by P came + 0 ≡ count_by P came = omega arith in e) (omega arith) logs.logs.goes.spends.disk before.stores;
+    stores = stores_counted lines n c.phase c.faults looks looks came [] came (strikes seat.node.replica) (strikes seat'.node.replica) (λ P. let e : count_by P came + 0 ≡ count_by P came = omega arith in e) (omega arith) logs.logs.goes.spends.disk before.stores;
   }
 
   pub line_logged : LineWent law meaning lines home nodes c looks n from (i + 1) journal seat' desks'

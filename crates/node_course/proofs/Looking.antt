@@ -26,7 +26,6 @@ use Rattle.node_lines.specs.declared.desk.Desk.{Desk}
 use Rattle.node_lines.specs.declared.lines.Looked.{Looked}
 use Rattle.node_lines.specs.declared.lines.Looked.TheVariants as looked
 use Rattle.node_lines.specs.Lines.{Looks, LooksSo}
-use Rattle.node_lines.specs.Measuring.{IsCleanPoint}
 use Rattle.node_lines.specs.Workers.{IsOfSessions, MayRun, OwnAdds, OwnWithin, WorkerOk, sent_by}
 use Rattle.node_lines.proofs.Moving.{none-before}
 use Rattle.run_laws.specs.Ended.{CameTo}
@@ -34,6 +33,7 @@ use Rattle.run_laws.proofs.Placing.{same_some}
 use Rattle.node_course.specs.Script.{AreLines, BeginsAt, asked_by}
 use Rattle.node_course.specs.Moments.{NodeCourse, tails}
 use Rattle.node_course.specs.Played.{went_further}
+use Rattle.node_course.specs.Behind.{IsCleanSince}
 use Rattle.node_course.specs.Desks.{DeskAt, LogsBefore, LookedSo, PlayedSo, SawSo, WasFree, WasStopped}
 use Rattle.node_course.specs.Replacing.{AsksNode}
 use Rattle.node_course.specs.Telling.{HasToldSo, IsTrim}
@@ -111,7 +111,7 @@ module _ (law : Law) (meaning : Meaning) (run : MayRun law) (lines : List NamedL
       omega (arith, same, up)
 
   -- a read reports nothing
-  clean : (position : ℕ) → look ≡ looked.Reported position → IsCleanPoint journal position
+  clean : (position : ℕ) → look ≡ looked.Reported position → IsCleanSince c.seen journal position
   clean position is = absurd (subst (LooksSo (node_of seat c.seen) (node_of seat' journal) desk query does.others) is does.looks)
 
   seals : faults_of n journal ≡ [] → own_seals n journal ≤ went_further n lines looks'

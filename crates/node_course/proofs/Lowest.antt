@@ -18,7 +18,6 @@ use Rattle.node_lines.specs.declared.lines.Looked.TheVariants as looked
 use Rattle.node_lines.specs.Workers.{HasNotLeft}
 use Rattle.node_lines.proofs.Cleaning.{front_appended}
 use Rattle.node_lines.proofs.Saying.{is_member}
-use Rattle.node_course.specs.Moments.{NodeCourse, moment}
 use Rattle.node_course.specs.Played.{Came}
 use Rattle.node_course.specs.Reporting.{StandsThere}
 use Rattle.node_course.specs.Telling.{HasToldSo, IsLowest, SaysBelow, StaysBelow}
@@ -55,15 +54,14 @@ module _ (law : Law) (low : (log : List Entry) (n : ℕ) → law.floor log n →
   stood_low node trim stays upto (content.Trim k) h = tt
 
   -- some node is the lowest by this log, and so by what stood in the log at any moment before
-  pub lowest_is : (lines : List NamedLine) (looks' : List (Option Looked)) (nodes n : ℕ) (c' : NodeCourse) (j : ℕ) (l : NamedLine) (trim : ℕ) → 1 ≤ n → n ≤ nodes → HasNotLeft n new → least_position nodes (unpack_all 0 log) ≤ trim
-      → ((x : Content) → StandsThere (moment c' l.phase) x → StandsThere old x)
+  pub lowest_is : (lines : List NamedLine) (looks' : List (Option Looked)) (nodes n j trim : ℕ) → 1 ≤ n → n ≤ nodes → HasNotLeft n new → least_position nodes (unpack_all 0 log) ≤ trim
       → ((i : ℕ) (m : NamedLine) (look : Looked) → Came lines looks' n i m look → i < j → HasToldSo old n look)
-      → IsLowest lines looks' nodes n c' j l trim
-  lowest_is lines looks' nodes n c' j l trim least most stays reached began stand = record {
+      → IsLowest lines looks' nodes n old j trim
+  lowest_is lines looks' nodes n j trim least most stays reached stand = record {
     node = first.node;
     least = first.low;
     most = first.high;
-    stood = λ x there. stood_low first.node trim first.stays (λ k upto. omega (arith, upto, first.is, reached)) x (began x there);
+    stood = λ x there. stood_low first.node trim first.stays (λ k upto. omega (arith, upto, first.is, reached)) x there;
     own = λ same i m look come before. below first.node look trim first.stays (λ k upto. omega (arith, upto, first.is, reached)) (subst (λ k. HasToldSo old k look) (sym same) (stand i m look come before));
   }
     where

@@ -86,11 +86,14 @@ module _ (law : Law) (meaning : Meaning) (lines : List NamedLine) (home : ℕ �
     };
     seals = λ calm. omega arith;
     told = λ e p there among. absurd (none_in e there);
+    asked = λ p low e q there among. absurd (none_in e (subst (λ m. Contains (appended_by n m) e) (first_moment p) there));
     behind = λ early e p position up own among is. absurd (none_in e (own_upto n early [] up e own));
     stand = λ i l look come. absurd (never i l look come);
     reports = record {
       each = λ i l position come. absurd (never i l (looked.Reported position) come);
       reads = λ i j l m position after found come later low. absurd (never i l (looked.Reported position) come);
+      forward = λ i j l m s query after later found next come then' look low. absurd (never i l (looked.Found after found) come);
+      again = λ i j l m position later come then' low. absurd (never i l (looked.Reported position) come);
     };
     trims = λ j l trim come. absurd (never j l (looked.Trimmed trim) come);
   }
@@ -115,7 +118,7 @@ module _ (law : Law) (meaning : Meaning) (lines : List NamedLine) (home : ℕ �
       waiting = λ i l low at here. none_there lines looks i l size none at;
       played = λ i l low at here. absurd (omega (arith, low));
       reports = λ e p there among position is. absurd (none_in e there);
-      stores = (let calm = nothing_failed (lacks_store n) lines looks none in omega (arith, calm));
+      stores = (let calm = nothing_failed (lacks_store n) lines looks none in let struck = new.struck in omega (arith, calm, struck));
     };
     none_given = new.given;
   }

@@ -7,6 +7,7 @@ use Rattle.delos_types.specs.declared.entry.Entry.{Entry}
 use Rattle.delos_types.specs.declared.cause.Cause.{Cause}
 use Rattle.delos_types.specs.declared.cause.Cause.TheVariants as cause
 use Rattle.table_core.specs.declared.command.Found.{Found}
+use Rattle.table_core.specs.declared.command.Query.{Query}
 use Rattle.legal_journal.specs.Law.{Law}
 use Rattle.legal_journal.specs.declared.events.Event.{Event}
 use Rattle.legal_journal.specs.Journal.{IsLegal}
@@ -18,15 +19,18 @@ use Rattle.engine_api.specs.Items.{unpack}
 use Rattle.replica_api.specs.Replica.{Meaning}
 use Rattle.base_engine.specs.declared.outbox.Given.{Given}
 use Rattle.virtual_log.specs.declared.extend.Extension.{Extension}
+use Rattle.script_text.specs.declared.line.Session.{Session}
 use Rattle.script_text.specs.declared.asks.NamedLine.{NamedLine}
+use Rattle.script_text.specs.declared.asks.Asks.TheVariants as asks
 use Rattle.fitting_run.specs.Lines.{logs_for}
 use Rattle.fitting_run.specs.Faults.{lacks_store}
 use Rattle.fabric_core.proofs.Marks.{set_other}
+use Rattle.fabric_core.proofs.Shelf.{some_at}
 use Rattle.turn_scopes.specs.Seats.{SeatView, node_of}
 use Rattle.node_lines.specs.declared.desk.Desk.{Desk}
 use Rattle.node_lines.specs.declared.lines.Looked.{Looked}
 use Rattle.node_lines.specs.declared.lines.Looked.TheVariants as looked
-use Rattle.node_lines.specs.Moving.{causes_of, Moves}
+use Rattle.node_lines.specs.Moving.{causes_of, Moves, strikes}
 use Rattle.node_lines.specs.Measuring.{IsCleanPoint}
 use Rattle.node_lines.specs.UnderWay.{HasRank}
 use Rattle.node_lines.specs.Workers.{Grows, OwnWithin, WorkerOk, appended_by, sent_by}
@@ -37,21 +41,21 @@ use Rattle.run_laws.proofs.Placing.{same_some}
 use Rattle.node_course.specs.Script.{AreLines, asked_by, failed_looks}
 use Rattle.node_course.specs.Moments.{NodeCourse, GoesOn, moment, at_node}
 use Rattle.node_course.specs.Played.{Came, went_further}
-use Rattle.node_course.specs.Behind.{ReportsHold, WasReported}
+use Rattle.node_course.specs.Behind.{IsCleanSince, ReportsHold, WasReported}
 use Rattle.node_course.specs.Course.{IsCourse}
 use Rattle.node_course.specs.Reporting.{StandsThere}
 use Rattle.node_lines.specs.Turns.{IsAnswered}
-use Rattle.node_course.specs.Desks.{DeskAt, PlayedSo}
+use Rattle.node_course.specs.Desks.{DeskAt, LookedSo, PlayedSo}
 use Rattle.node_course.specs.Replacing.{AsksNode, Replaced}
 use Rattle.node_course.specs.Telling.{HasToldSo, IsTrim}
 use Rattle.node_course.specs.Workers.{LineWent, NodeAt}
 use Rattle.node_course.proofs.Legal.{worker_legal, worker_within}
-use Rattle.node_course.proofs.Looks.{came_cases}
-use Rattle.node_course.proofs.Lines.{asked_more, asked_none, phase_before}
-use Rattle.node_course.proofs.Moments.{grows_not, moment_now, moment_seen}
+use Rattle.node_course.proofs.Looks.{came_cases, came_on}
+use Rattle.node_course.proofs.Lines.{asked_more, asked_none, at_get, phase_before}
+use Rattle.node_course.proofs.Moments.{grows_both, grows_not, moment_now, moment_seen}
 use Rattle.node_course.proofs.Held.{reported_on}
 use Rattle.node_course.proofs.Sent.{sent_low}
-use Rattle.node_course.proofs.Stands.{says_one, stands_on}
+use Rattle.node_course.proofs.Stands.{clean_on, says_one, stands_on}
 use Rattle.node_course.proofs.Told.{TellsOn, stand_then, trim_on}
 use Rattle.node_course.proofs.Replacing.{LooksOn, replaced_then}
 use Rattle.node_course.proofs.Advance.{advance, advanced, advanced_on, count_at_node, events_then, failed_of, failed_set, here_then, stores_counted}
@@ -60,7 +64,7 @@ use Rattle.node_course.proofs.Coming.{given_then}
 
 module _ (law : Law) (meaning : Meaning) (lines : List NamedLine) (home : ℕ → ℕ) (nodes : ℕ) (c : NodeCourse) (looks : List (Option Looked)) (n from i : ℕ) (line : NamedLine) (look : Looked) (seat seat' : SeatView) (desks desks' : List Desk) (taken : IsAnswered desks desks') (journal : List Event) (are : AreLines lines home nodes) (at : slice_get lines i ≡ Some line) (node : line.node ≡ n) (phase : line.phase ≡ c.phase) (unlogged : (s : ℕ) → logs_for s line ≡ false) (was : NodeAt law meaning lines home nodes c looks n from i c.phase seat desks) (others : List Cause) (moves : Moves (record law { may = OwnWithin n law.may (sent_by desks) }) (node_of seat c.seen) (node_of seat' journal) others) (paid_is : others ≡ failed_of look) (on : LooksOn (length law.shelf) n c.seen journal look) (own : (x : Extension) → look ≡ looked.Extended x → AsksNode line.asks) (seals : faults_of n journal ≡ [] → own_seals n journal ≤ went_further n lines (slice_set looks i (Some look))) (now : WorkerOk law meaning n journal seat' desks') (tells : TellsOn lines (slice_set looks i (Some look)) n seat.node.replica.cursor seat'.node.replica.cursor c.seen journal) (stood : HasToldSo journal n look)
     (trimmed : (trim : ℕ) → look ≡ looked.Trimmed trim → IsTrim lines (slice_set looks i (Some look)) nodes n (advanced c n (map (λ g. g.cause) moves.goes.given) journal c.when) i line trim)
-    (clean : (position : ℕ) → look ≡ looked.Reported position → IsCleanPoint journal position) (high_read : (after : ℕ) (found : Found) → look ≡ looked.Found after found → seat.node.replica.cursor ≤ after) where
+    (clean : (position : ℕ) → look ≡ looked.Reported position → IsCleanSince c.seen journal position) (high_read : (after : ℕ) (found : Found) → look ≡ looked.Found after found → seat.node.replica.cursor ≤ after) where
   abbrev came : List Cause
   came = map (λ g. g.cause) moves.goes.given
 
@@ -146,7 +150,7 @@ module _ (law : Law) (meaning : Meaning) (lines : List NamedLine) (home : ℕ �
           of (inr it) = absurd (none (sym (behind j l before.is before.own (omega (arith, it.0, low))) ∙ before.looked))
 
       by : Cases j l (looked.Trimmed trim) → IsTrim lines looks' nodes n then' j l trim
-      by (inl before) = trim_on law c then' grown lines looks looks' nodes n j l trim (was.did.ahead j l (looked.Trimmed trim) before) (back before) (was.did.trims j l trim before)
+      by (inl before) = trim_on law c then' grown lines looks looks' nodes n (came_on lines looks n i line look at not_yet) j l trim (was.did.ahead j l (looked.Trimmed trim) before) (back before) (was.did.trims j l trim before)
       by (inr it) = subst (λ k. IsTrim lines looks' nodes n then' k l trim) (sym it.0) (subst (λ m. IsTrim lines looks' nodes n then' i m trim) (sym it.1) (trimmed trim it.2))
 
   -- What comes behind its reports
@@ -173,7 +177,7 @@ module _ (law : Law) (meaning : Meaning) (lines : List NamedLine) (home : ℕ �
       by (inr it) = record {
         early = journal;
         upto = subst (Grows journal) (sym (next_is l it.1)) (grows_not journal);
-        clean = clean position it.2;
+        clean = (clean position it.2).clean;
         own = λ s r e own has. subst (λ k. r ≤ asked_by lines n s k) (sym it.0) (rank_low s r e own has);
       }
 
@@ -198,8 +202,56 @@ module _ (law : Law) (meaning : Meaning) (lines : List NamedLine) (home : ℕ �
       by (inr it) (inl told') = let upto = report_low j l position told' in let high = high_read after found it.2 in omega (arith, upto, high)
       by (inr it) (inr it') = absurd (let a = it.0 in let b = it'.0 in omega (arith, a, b, low))
 
+  -- where it looked before it had applied
+  read_low : (j : ℕ) (l : NamedLine) (s : Session) (query : Query) (after : ℕ) (found : Found) → Came lines looks n j l (looked.Found after found) → l.asks ≡ asks.Look s query → j < i → after ≤ seat.node.replica.cursor
+  read_low j l s query after found come asks_is low =
+      let h : PlayedSo lines c c.phase seat.node.replica.cursor n desks looks j l.phase (asks.Look s query) = subst (PlayedSo lines c c.phase seat.node.replica.cursor n desks looks j l.phase) asks_is (was.played j l low come.is come.own) in
+      let few = at_get (λ (m : NamedLine). session_in m.asks ≤ 63) lines j l are.known come.is in
+      let same = ap session_in asks_is in
+      let size = was.ok.size in
+      let d = some_at desks s.id (omega (arith, few, same, size)) in
+      (subst (LookedSo lines c seat.node.replica.cursor n d.0 j l.phase s.id query) (same_look h.0 (looked.Found after found) (sym h.1 ∙ come.looked)) (h.2 d.0 d.1)).within
+    where
+      same_look : (x y : Looked) → Some (Some x) ≡ Some (Some y) → x ≡ y
+      same_look x y e = cc
+
+  reads_forward : (j k : ℕ) (l m : NamedLine) (s : Session) (query : Query) (after later : ℕ) (found next : Found) → Came lines looks' n j l (looked.Found after found) → Came lines looks' n k m (looked.Found later next) → l.asks ≡ asks.Look s query → j < k
+      → after ≤ later
+  reads_forward j k l m s query after later found next saw then' asks_is low = by (cases k m (looked.Found later next) then') (cases j l (looked.Found after found) saw)
+    where
+      none : Some None ≡ Some (Some (looked.Found later next)) → ⊥
+      none e = cc
+
+      by : Cases k m (looked.Found later next) → Cases j l (looked.Found after found) → after ≤ later
+      by (inl b) (inl a) = was.did.reports.forward j k l m s query after later found next a b asks_is low
+      by (inl b) (inr it) = absurd (none (sym (behind k m b.is b.own (let here = it.0 in omega (arith, here, low))) ∙ b.looked))
+      by (inr it) (inl a) =
+          let upto = read_low j l s query after found a asks_is (let here = it.0 in omega (arith, here, low)) in
+          let high = high_read later next it.2 in
+          omega (arith, upto, high)
+      by (inr it) (inr it') = absurd (let a = it.0 in let b = it'.0 in omega (arith, a, b, low))
+
+  -- what it reported before was clean before
+  was_clean : (j : ℕ) (l : NamedLine) (position : ℕ) → Came lines looks n j l (looked.Reported position) → IsCleanPoint c.seen position
+  was_clean j l position come =
+      let k = was.did.reports.each j l position come in
+      let up = grows_both k.early (moment c (l.phase + 1)) c.seen k.upto (moment_seen c was.did.rise (l.phase + 1)) in
+      clean_on law k.early c.seen up.0 up.1 was.did.legal position k.clean
+
+  high_reports : (j k : ℕ) (l m : NamedLine) (position later : ℕ) → Came lines looks' n j l (looked.Reported position) → Came lines looks' n k m (looked.Reported later) → j < k → position ≤ later
+  high_reports j k l m position later told again low = by (cases k m (looked.Reported later) again) (cases j l (looked.Reported position) told)
+    where
+      none : Some None ≡ Some (Some (looked.Reported later)) → ⊥
+      none e = cc
+
+      by : Cases k m (looked.Reported later) → Cases j l (looked.Reported position) → position ≤ later
+      by (inl again') (inl told') = was.did.reports.again j k l m position later told' again' low
+      by (inl again') (inr it) = absurd (none (sym (behind k m again'.is again'.own (let here = it.0 in omega (arith, here, low))) ∙ again'.looked))
+      by (inr it) (inl told') = (clean later it.2).most position (was_clean j l position told')
+      by (inr it) (inr it') = absurd (let a = it.0 in let b = it'.0 in omega (arith, a, b, low))
+
   reports : ReportsHold lines looks' n then'
-  reports = record { each = each_reported; reads = high_reads }
+  reports = record { each = each_reported; reads = high_reads; forward = reads_forward; again = high_reports }
 
   -- what came across, the node's own events told
   told_by : (kind : Cause → Bool) → kind cause.Store ≡ false → count_by kind (causes_of moves.goes.given others) ≤ count_by kind (faults_of n moves.goes.spends.more)
@@ -207,7 +259,7 @@ module _ (law : Law) (meaning : Meaning) (lines : List NamedLine) (home : ℕ �
 
   did : IsCourse law lines nodes n then' looks'
   did = advance law lines nodes n c looks was.did then' goes legal
-      (here_then law lines nodes n c looks was.did came journal moves.goes.spends.more c.when moves.goes.spends.seen) looks' size
+      (here_then law lines nodes n c looks was.did came journal moves.goes.spends.more c.when moves.goes.spends.seen) looks' (came_on lines looks n i line look at not_yet) size
       (λ kind store. events_then law lines nodes n c looks was.did came journal moves.goes.spends.more c.when moves.goes.spends.seen looks' kind store
       (let e = told_by kind store in let a = both kind in let b = paid (at_node n kind) in let d = count_at_node n kind (failed_of look) in omega (arith, e, a, b, d)))
       ahead replaced seals tells.told (tells.stays was.did.behind) stand trims reports
@@ -268,7 +320,7 @@ module _ (law : Law) (meaning : Meaning) (lines : List NamedLine) (home : ℕ �
       waiting = λ j l high get there. elsewhere j (λ same. absurd (omega (arith, high, same))) ∙ was.waiting j l (omega (arith, high)) get there;
       played = played;
       reports = tells.own was.reports;
-      stores = stores_counted lines n c.phase c.faults looks looks' came (failed_of look) (causes_of moves.goes.given others) seat.node.replica.faults seat'.node.replica.faults both (paid (lacks_store n)) moves.goes.spends.disk was.stores;
+      stores = stores_counted lines n c.phase c.faults looks looks' came (failed_of look) (causes_of moves.goes.given others) (strikes seat.node.replica) (strikes seat'.node.replica) both (paid (lacks_store n)) moves.goes.spends.disk was.stores;
     }
 
     pub line_went : LineWent law meaning lines home nodes c looks' n from (i + 1) journal seat' desks'

@@ -23,10 +23,11 @@ use Rattle.node_course.proofs.Growing.{Grown, legal_then}
 
 -- Between other moments
 
-pub written_on : (who version : ℕ) (old new : List Event) → Grows old new → HasWritten who version old → HasWritten who version new
-written_on who version old new g h = record {
+pub written_on : (who version start : ℕ) (old new : List Event) → Grows old new → HasWritten who version start old → HasWritten who version start new
+written_on who version start old new g h = record {
   expected = h.expected;
   chain = h.chain;
+  begins = h.begins;
   before = h.before;
   after = h.after ++ g.0;
   seen = g.1 ∙ (ap (λ l. l ++ g.0) h.seen ∙ append_assoc h.before (write who h.expected h.chain version ∷ h.after) g.0);
@@ -56,7 +57,8 @@ module _ (law : Law) (who : ℕ) where
           next = omega (arith, h.0.next, a.last, b.last);
           started = subst (λ l. HasStarted (state_of l).register.chain start) (sym late.1) (started_stays law new late.0 start (subst (IsLegal law) late.1 legal) h.0.started);
         },
-        written_on who version new last late h.1,
+        written_on who version start new last late h.1,
+        record { from = (let low = h.2.from in omega (arith, low, a.tail)); upto = (let high = h.2.upto in omega (arith, high, b.tail)) },
       )
   replaced_within first old new last early late was legal (Moved version) h =
       let a = grown_on law first old early was in

@@ -1,5 +1,5 @@
 -- A line had its node report how much of the log is clean.
-use Rattle.std.proofs.Common.{◌≡◌, refl, sym, ap, subst, ℕ, ◌+◌, ◌<◌, ◌≤◌, List, [], ◌∷◌, Option, Some, None, map, slice_get, slice_set, Contains, arith}
+use Rattle.std.proofs.Common.{◌≡◌, refl, sym, ap, ◌∙◌, subst, ℕ, ◌+◌, ◌<◌, ◌≤◌, true, List, [], ◌∷◌, Option, Some, None, length, map, take, slice_get, slice_set, Contains, arith}
 use Rattle.delos_types.specs.declared.entry.Entry.{Entry}
 use Rattle.legal_journal.specs.Law.{Law}
 use Rattle.legal_journal.specs.declared.events.Event.{Event}
@@ -10,6 +10,9 @@ use Rattle.engine_api.specs.declared.content.Content.TheVariants as content
 use Rattle.engine_api.specs.declared.content.Placed.{Placed}
 use Rattle.engine_api.specs.Items.{unpack}
 use Rattle.engine_api.specs.Packing.{alive_item, packed}
+use Rattle.engine_api.specs.Acted.{asked_in}
+use Rattle.engine_api.specs.Members.{clean_at}
+use Rattle.engine_api.specs.Order.{is_clean}
 use Rattle.replica_api.specs.Replica.{Meaning}
 use Rattle.base_engine.specs.Node.{NodeView}
 use Rattle.script_text.specs.declared.line.Admin.TheVariants.{Alive}
@@ -25,12 +28,16 @@ use Rattle.node_lines.specs.Measuring.{IsCleanPoint}
 use Rattle.node_lines.specs.Workers.{MayRun, OwnWithin, ReportAdds, WorkerOk, sent_by}
 use Rattle.node_course.specs.Script.{AreLines}
 use Rattle.node_course.specs.Moments.{NodeCourse, tails}
+use Rattle.node_lines.proofs.Cleaning.{same_beginning}
+use Rattle.run_laws.proofs.Clean.{clean-most}
+use Rattle.node_course.specs.Behind.{IsCleanSince}
 use Rattle.node_course.specs.Desks.{IsOfNode}
 use Rattle.node_course.specs.Leaving.{LeftSo}
 use Rattle.node_course.specs.Reporting.{IsReport, ReportedSo}
 use Rattle.node_course.specs.Telling.{AskedFor, HasToldSo, IsReportedBehind, TellsAtLeast, ToldSo}
 use Rattle.node_course.specs.Workers.{LineWent, NodeAt}
 use Rattle.node_course.proofs.Legal.{worker_legal}
+use Rattle.node_course.proofs.Fronts.{front_low}
 use Rattle.node_course.proofs.Stands.{front_on, in_other}
 use Rattle.node_course.proofs.Told.{TellsOn, tells_one}
 use Rattle.node_course.proofs.Looks.{came_on}
@@ -171,9 +178,32 @@ module _ (law : Law) (meaning : Meaning) (run : MayRun law) (lines : List NamedL
   stood looked.Left h r = absurd h
   stood (looked.Trimmed trim) h r = tt
 
+  -- What it reports is clean, and isn't less than what was clean before: its front reaches the tail of then.
+  cleaned : (position : ℕ) → look ≡ looked.Reported position → IsCleanSince c.seen journal position
+  cleaned position is = record { clean = subst (IsCleanPoint journal) (sym (adds.is position is)) adds.clean; most = most }
+    where
+      told : So (looked.Reported position)
+      told = subst So is does.tells
+
+      report : IsReport journal (tail_of (state_of c.seen)) seat'.node.replica.cursor seat.node.replica.origin position
+      report = told_report law (node_of seat c.seen) (node_of seat' journal) position legal told.1 (tail_of (state_of c.seen)) (omega arith)
+
+      most : (m : ℕ) → IsCleanPoint c.seen m → m ≤ position
+      most m k =
+          let low = front_low law run.low c.seen k.log was.did.legal k.front in
+          let within = k.within in
+          let from = report.from in
+          let short : m ≤ length report.log = omega (arith, low, within, from) in
+          let front = front_on law c.seen journal does.moves.goes.spends.more does.moves.goes.spends.seen legal k.log k.front in
+          let same : take m report.log ≡ take m k.log = same_beginning law journal report.log k.log m legal report.front front short within in
+          let clean : clean_at report.log m ≡ true = ap (λ l. is_clean (λ s. 1) (asked_in 0 l)) same ∙ k.clean in
+          let high = clean-most report.log m short clean in
+          let here = report.clean in
+          omega (arith, high, here)
+
   pub line_reported : LineWent law meaning lines home nodes c looks' n from (i + 1) journal seat' desks
   line_reported =
       line_told law meaning lines home nodes c looks n from i line Alive look seat seat' desks desks (none_taken desks) journal are at node phase asks_is was still does.others does.moves now none
       (paid_is look does.tells) (of_node look does.tells) (reported look does.tells) (none_left look does.tells)
       tells (stood look does.tells (reported look does.tells)) (λ trim is. absurd (subst So is does.tells))
-      (λ position is. subst (IsCleanPoint journal) (sym (adds.is position is)) adds.clean)
+      cleaned

@@ -10,6 +10,7 @@ use Rattle.journal_laws.specs.Faults.{fault_of, faults_in}
 use Rattle.journal_laws.specs.Own.{own, faults_of}
 use Rattle.journal_laws.proofs.Reaching.{as_far}
 use Rattle.script_text.specs.declared.asks.NamedLine.{NamedLine}
+use Rattle.fitting_run.specs.Replacements.{goes_by_ones}
 use Rattle.turn_scopes.proofs.Seals.{own_seals-cons}
 use Rattle.node_lines.specs.declared.lines.Looked.{Looked}
 use Rattle.node_course.specs.Moments.{NodeCourse}
@@ -17,7 +18,7 @@ use Rattle.node_course.specs.Played.{goes_further, went_further}
 use Rattle.node_course.specs.Joined.{AreJoined}
 use Rattle.node_course.proofs.Lines.{count-cons}
 use Rattle.node_course.proofs.Parts.{run_legal}
-use Rattle.node_course.proofs.Whole.{journal_whole}
+use Rattle.node_course.proofs.Whole.{journal_counted, journal_whole}
 use Rattle.node_course.proofs.Totals.{total, total_add, total_has, total_less, total_none, total_one}
 
 nil_parts : {A : Type 0} (xs ys : List A) → xs ++ ys ≡ [] → (xs ≡ []) × (ys ≡ [])
@@ -81,3 +82,6 @@ module _ (law : Law) (lines : List NamedLine) (home : ℕ → ℕ) (nodes : ℕ)
 
   pub all_segments : 1 ≤ nodes → trim_of (state_of run.seen) ≡ 0 → length (state_of run.seen).register.chain.segments ≡ last_id (state_of run.seen).register.chain + 1
   all_segments some none = journal_whole law run.seen (run_legal law lines home nodes run looks courses join some) none
+
+  pub all_counted : 1 ≤ nodes → goes_by_ones (state_of run.seen).register.version (state_of run.seen).register.chain ≡ true
+  all_counted some = journal_counted law run.seen (run_legal law lines home nodes run looks courses join some)

@@ -63,7 +63,7 @@ module _ (law : Law) (meaning : Meaning) (lines : List NamedLine) (home : ℕ �
   failed kind = failed_same (at_node n kind) n (λ m k other. node_only n kind m k other) lines looks looks' size same
 
   did : IsCourse law lines nodes n then' looks'
-  did = advance_back law lines nodes n c looks was.did then' goes legal was.did.here looks' (same_back lines looks looks' n same) (further_same n lines looks looks' size same) size
+  did = advance_back law lines nodes n c looks was.did then' goes legal was.did.here looks' (same_on lines looks looks' n same) (same_back lines looks looks' n same) (further_same n lines looks looks' size same) size
       (λ kind store.
       let before = was.did.events kind store in
       let paid = failed kind in

@@ -29,7 +29,7 @@ pub did_still : (law : Law) (lines : List NamedLine) (nodes n : ℕ) (c : NodeCo
     → SealsNone n c.seen journal → AreTold lines looks n journal → AsksBehind n journal → IsCourse law lines nodes n (advanced c n came journal when) looks
 did_still law lines nodes n c looks ok came journal more when seen legal told_by still told behind =
     advance_back law lines nodes n c looks ok (advanced c n came journal when) (advanced_on c n came journal more when seen) legal
-    (here_then law lines nodes n c looks ok came journal more when seen) looks (λ i l look come. come) refl refl
+    (here_then law lines nodes n c looks ok came journal more when seen) looks (λ i l look come. come) (λ i l look come. come) refl refl
     (λ kind store. events_then law lines nodes n c looks ok came journal more when seen looks kind store (let e = told_by kind store in omega (arith, e)))
     (seals_still n c.seen journal (went_further n lines looks) (went_further n lines looks) still (omega arith) ok.seals)
     told behind

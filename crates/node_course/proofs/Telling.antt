@@ -28,11 +28,11 @@ use Rattle.node_lines.specs.declared.desk.Desk.{Desk}
 use Rattle.node_lines.specs.declared.lines.Looked.{Looked}
 use Rattle.node_lines.specs.declared.lines.Looked.TheVariants as looked
 use Rattle.node_lines.specs.Moving.{Moves}
-use Rattle.node_lines.specs.Measuring.{IsCleanPoint}
 use Rattle.node_lines.specs.Workers.{OwnWithin, WorkerOk, sent_by}
 use Rattle.node_course.specs.Script.{AreLines}
 use Rattle.node_course.specs.Moments.{NodeCourse, tails}
 use Rattle.node_lines.specs.Turns.{IsAnswered}
+use Rattle.node_course.specs.Behind.{IsCleanSince}
 use Rattle.node_course.specs.Desks.{IsOfNode, PlayedSo}
 use Rattle.node_course.specs.Leaving.{LeftSo}
 use Rattle.node_course.specs.Replacing.{AsksNode}
@@ -94,7 +94,7 @@ module _ (law : Law) (meaning : Meaning) (lines : List NamedLine) (home : ℕ �
   not_yet = was.waiting i line (omega arith) at node
 
   -- what it came to is known, and it replaced nothing
-  module _ (none : (x : Extension) → look ≡ looked.Extended x → ⊥) (paid_is : others ≡ failed_of look) (of_node : IsOfNode admin look) (reported : ReportedSo journal (tails then' line.phase) seat'.node.replica.cursor n look) (left : LeftSo journal seat'.node.replica.cursor n look) (tells : TellsOn lines looks' n seat.node.replica.cursor seat'.node.replica.cursor c.seen journal) (stood : HasToldSo journal n look) (trimmed : (trim : ℕ) → look ≡ looked.Trimmed trim → IsTrim lines looks' nodes n then' i line trim) (clean : (position : ℕ) → look ≡ looked.Reported position → IsCleanPoint journal position) where
+  module _ (none : (x : Extension) → look ≡ looked.Extended x → ⊥) (paid_is : others ≡ failed_of look) (of_node : IsOfNode admin look) (reported : ReportedSo journal (tails then' line.phase) seat'.node.replica.cursor n look) (left : LeftSo journal seat'.node.replica.cursor n look) (tells : TellsOn lines looks' n seat.node.replica.cursor seat'.node.replica.cursor c.seen journal) (stood : HasToldSo journal n look) (trimmed : (trim : ℕ) → look ≡ looked.Trimmed trim → IsTrim lines looks' nodes n then' i line trim) (clean : (position : ℕ) → look ≡ looked.Reported position → IsCleanSince c.seen journal position) where
     on : LooksOn (length law.shelf) n c.seen journal look
     on x is = absurd (none x is)
 

@@ -11,7 +11,10 @@ use Rattle.engine_api.specs.declared.content.Content.TheVariants as content
 use Rattle.engine_api.specs.declared.content.Placed.{Placed}
 use Rattle.engine_api.specs.Items.{unpack}
 use Rattle.script_text.specs.declared.line.Admin.{Admin}
+use Rattle.script_text.specs.declared.line.Admin.TheVariants.{Alive, Retire, Trim}
 use Rattle.script_text.specs.declared.asks.NamedLine.{NamedLine}
+use Rattle.script_text.specs.declared.asks.Asks.{Asks}
+use Rattle.script_text.specs.declared.asks.Asks.TheVariants as asks
 use Rattle.node_lines.specs.declared.lines.Looked.{Looked}
 use Rattle.node_lines.specs.declared.lines.Looked.TheVariants as looked
 use Rattle.node_lines.specs.Workers.{Grows, IsCommand, IsOfSessions, IsReported, IsSaid, MayRun, OwnAdds, ReportsUpTo, SaysAlone, appended_by}
@@ -20,10 +23,11 @@ use Rattle.run_laws.proofs.Members.{Among, all-at, among-map, contained-among}
 use Rattle.node_course.specs.Moments.{NodeCourse, moment, tails}
 use Rattle.node_course.specs.Played.{Came}
 use Rattle.node_course.specs.Reporting.{StandsThere}
-use Rattle.node_course.specs.Telling.{AreTold, AskedFor, AsksBehind, HasToldSo, IsTrim, ToldSo, WasHeld}
+use Rattle.node_course.specs.Telling.{AreAsked, AreTold, AskedFor, AskedSo, AsksBehind, HasToldSo, IsTrim, ToldSo, WasHeld}
 use Rattle.node_course.proofs.Looks.{CameOn}
 use Rattle.node_course.proofs.Keeping.{asks_on}
-use Rattle.node_course.proofs.Stands.{behind_on, front_on, stands_on, trim_rises}
+use Rattle.node_course.proofs.Moments.{grows_both}
+use Rattle.node_course.proofs.Stands.{behind_on, front_on, stands_on}
 use Rattle.node_course.proofs.Growing.{Grown, legal_then}
 
 -- Entries
@@ -128,18 +132,67 @@ stand_on old new stands node (looked.Reported n) h = stands (content.Alive node 
 stand_on old new stands node looked.Left h = stands (content.Leave node) h
 stand_on old new stands node (looked.Trimmed trim) h = tt
 
+-- What lines asked
+
+-- what the node told of itself, lines asked that were played: of those that aren't asked for a trim
+pub told_asked : (lines : List NamedLine) (looks : List (Option Looked)) (n : ℕ) (These : ℕ → NamedLine → Type 0) (journal : List Event)
+    → ((i : ℕ) (l : NamedLine) (look : Looked) → Came lines looks n i l look → (l.asks ≡ asks.Admin Trim → ⊥) → These i l) → AreTold lines looks n journal → AreAsked lines looks n These journal
+told_asked lines looks n These journal all told = λ e p own among. by p.content (told e p own among)
+  where
+    no_report : (a : Asks) → a ≡ asks.Admin Alive → a ≡ asks.Admin Trim → ⊥
+    no_report a e k = apart (sym e ∙ k)
+      where
+        apart : asks.Admin Alive ≡ asks.Admin Trim → ⊥
+        apart x = cc
+
+    no_leave : (a : Asks) → a ≡ asks.Admin Retire → a ≡ asks.Admin Trim → ⊥
+    no_leave a e k = apart (sym e ∙ k)
+      where
+        apart : asks.Admin Retire ≡ asks.Admin Trim → ⊥
+        apart x = cc
+
+    by : (c : Content) → ToldSo lines looks n journal c → AskedSo lines looks n These c
+    by (content.Session s r x) h = tt
+    by (content.Alive node position) h = record { by = h.2; these = all h.2.at h.2.line h.2.look h.2.came (no_report h.2.line.asks h.2.asks) }
+    by (content.Leave node) h = record { by = h.1; these = all h.1.at h.1.line h.1.look h.1.came (no_leave h.1.line.asks h.1.asks) }
+    by (content.Trim position) h = tt
+
+-- .. still, and by more lines
+pub asked_wider : (lines : List NamedLine) (looks looks' : List (Option Looked)) (n : ℕ) (These Those : ℕ → NamedLine → Type 0) → CameOn lines looks looks' n
+    → ((i : ℕ) (l : NamedLine) (look : Looked) → Came lines looks n i l look → These i l → Those i l) → (c : Content) → AskedSo lines looks n These c → AskedSo lines looks' n Those c
+asked_wider lines looks looks' n These Those on wider (content.Session s r x) h = tt
+asked_wider lines looks looks' n These Those on wider (content.Alive node position) h = record {
+  by = record { at = h.by.at; line = h.by.line; look = h.by.look; came = on h.by.at h.by.line h.by.look h.by.came; asks = h.by.asks; so = h.by.so };
+  these = wider h.by.at h.by.line h.by.look h.by.came h.these;
+}
+asked_wider lines looks looks' n These Those on wider (content.Leave node) h = record {
+  by = record { at = h.by.at; line = h.by.line; look = h.by.look; came = on h.by.at h.by.line h.by.look h.by.came; asks = h.by.asks; so = h.by.so };
+  these = wider h.by.at h.by.line h.by.look h.by.came h.these;
+}
+asked_wider lines looks looks' n These Those on wider (content.Trim position) h = tt
+
+pub asked_still : (lines : List NamedLine) (looks looks' : List (Option Looked)) (n : ℕ) (These : ℕ → NamedLine → Type 0) (journal : List Event) → CameOn lines looks looks' n → AreAsked lines looks n These journal → AreAsked lines looks' n These journal
+asked_still lines looks looks' n These journal on h = λ e p own among. asked_wider lines looks looks' n These These on (λ i l look come k. k) p.content (h e p own among)
+
 -- A trim stands, where no line of the node before it was played since.
 module _ (law : Law) (c c' : NodeCourse) (g : Grown law c c') (lines : List NamedLine) (looks looks' : List (Option Looked)) (nodes n : ℕ) where
-  pub trim_on : (j : ℕ) (l : NamedLine) (trim : ℕ) → l.phase ≤ c.phase → ((i : ℕ) (m : NamedLine) (look : Looked) → Came lines looks' n i m look → i < j → Came lines looks n i m look) → IsTrim lines looks nodes n c j l trim → IsTrim lines looks' nodes n c' j l trim
-  trim_on j l trim low back h = record {
+  pub trim_on : CameOn lines looks looks' n → (j : ℕ) (l : NamedLine) (trim : ℕ) → l.phase ≤ c.phase → ((i : ℕ) (m : NamedLine) (look : Looked) → Came lines looks' n i m look → i < j → Came lines looks n i m look) → IsTrim lines looks nodes n c j l trim → IsTrim lines looks' nodes n c' j l trim
+  trim_on on j l trim low back h = record {
+    before = h.before;
+    early = h.early;
+    began = subst (λ m. Grows m h.before) (sym (g.past l.phase low)) h.began;
+    went = h.went;
+    ended = grows_both h.early (moment c (l.phase + 1)) (moment c' (l.phase + 1)) h.ended (g.later (l.phase + 1));
     lowest = record {
       node = h.lowest.node;
       least = h.lowest.least;
       most = h.lowest.most;
-      stood = λ x there. h.lowest.stood x (subst (λ m. StandsThere m x) (g.past l.phase low) there);
+      stood = h.lowest.stood;
       own = λ same i m look come before. h.lowest.own same i m look (back i m look come before) before;
     };
-    upto = let up = trim_rises law c.seen c'.seen g.more g.seen g.legal in omega (arith, h.upto, up);
+    earlier = λ i m less come before. h.earlier i m less (back i m (looked.Trimmed less) come before) before;
+    upto = h.upto;
+    asked = asked_still lines looks looks' n (λ i m. i < j) h.early on h.asked;
     position = h.position;
     stands = stands_on law c.seen c'.seen g.more g.seen g.legal (content.Trim h.position) h.stands;
     log = h.log;

@@ -34,9 +34,9 @@ use Rattle.node_course.specs.Played.{Came}
 use Rattle.node_course.specs.Reporting.{StandsThere}
 use Rattle.node_course.specs.Telling.{AreTold, AskedFor, HasToldSo, IsReportedBehind, IsTrim, SaysBelow, StaysBelow, TellsAtLeast, ToldSo}
 use Rattle.node_course.specs.Joined.{AreJoined, AreOfNodes, GoesFirst, HadLowest, IsClean}
-use Rattle.node_course.proofs.Moments.{grown_legal}
+use Rattle.node_course.proofs.Moments.{grown_legal, grows_both}
 use Rattle.node_course.proofs.Parts.{moment_is, node_there, run_legal, run_seen, run_upto}
-use Rattle.node_course.proofs.Stands.{says_one, stands_on}
+use Rattle.node_course.proofs.Stands.{says_one, stands_on, trim_rises}
 use Rattle.node_course.proofs.Told.{stand_on}
 use Rattle.node_course.proofs.Turning.{member_above}
 
@@ -69,7 +69,17 @@ pub appender : (law : Law) (seen : List Event) (e : Entry) → IsLegal law seen 
 appender law seen e legal there =
     appended_may (record law { may = λ who x. law.may who x × Contains (appended_by who seen) x }) seen e (legal_own law (λ who x. law.may who x × Contains (appended_by who seen) x) seen legal (λ who x own allowed. (allowed, own))) there
 
-left_by : (law : Law) → MayRun law → (seen : List Event) (k : ℕ) → IsLegal law seen → (s : IsSaid seen (content.Leave k)) → Contains (appended_by k seen) s.entry
+-- who tells so much tells less
+pub tells_less : (trim position : ℕ) (look : Looked) → trim ≤ position → TellsAtLeast position look → TellsAtLeast trim look
+tells_less trim position (looked.Found after found) low h = h
+tells_less trim position (looked.Kept cause) low h = h
+tells_less trim position (looked.Failed cause) low h = tt
+tells_less trim position (looked.Extended x) low h = h
+tells_less trim position (looked.Reported n) low h = omega (arith, low, h)
+tells_less trim position looked.Left low h = h
+tells_less trim position (looked.Trimmed t) low h = h
+
+pub left_by : (law : Law) → MayRun law → (seen : List Event) (k : ℕ) → IsLegal law seen → (s : IsSaid seen (content.Leave k)) → Contains (appended_by k seen) s.entry
 left_by law run seen k legal s =
     let by = appender law seen s.entry legal s.appended_is in
     subst (λ who. Contains (appended_by who seen) s.entry) (run.leaves by.0 k s.entry s.placed by.1.0 s.among s.is) by.1.1
@@ -86,20 +96,11 @@ module _ (law : Law) (run_may : MayRun law) (lines : List NamedLine) (home : ℕ
     abbrev Told : ℕ → Type 0
     Told trim = (trim ≡ 0) ⊎ (AskedFor lines looks k Retire (λ look. Unit {0}) ⊎ AskedFor lines looks k Alive (TellsAtLeast trim))
 
-    less : (trim position : ℕ) (look : Looked) → trim ≤ position → TellsAtLeast position look → TellsAtLeast trim look
-    less trim position (looked.Found after found) low h = h
-    less trim position (looked.Kept cause) low h = h
-    less trim position (looked.Failed cause) low h = tt
-    less trim position (looked.Extended x) low h = h
-    less trim position (looked.Reported n) low h = omega (arith, low, h)
-    less trim position looked.Left low h = h
-    less trim position (looked.Trimmed t) low h = h
-
     reported : (trim position : ℕ) → trim ≤ position → IsSaid run.seen (content.Alive k position) → AskedFor lines looks k Alive (TellsAtLeast trim)
     reported trim position low s =
         let own = reported_by law law run_may (λ user e h. h) run.seen legal k position s.entry s.placed s.appended_is s.among s.is in
         let h = subst (ToldSo lines looks k run.seen) s.is (told_by k least most s.entry s.placed own s.among) in
-        record { at = h.2.at; line = h.2.line; look = h.2.look; came = h.2.came; asks = h.2.asks; so = less trim position h.2.look low h.2.so }
+        record { at = h.2.at; line = h.2.line; look = h.2.look; came = h.2.came; asks = h.2.asks; so = tells_less trim position h.2.look low h.2.so }
 
     freed : (trim : ℕ) → Frees law.floor run.seen trim → Told trim
     freed trim f = by (has_left (unpack_all 0 f.log) k) refl
@@ -155,6 +156,24 @@ not_among law journal legal n position b s low =
     let same : x.element ≡ s.entry = holds_agree law journal s.at x.element s.entry legal (b.clean.front s.at x.element x.is) s.held in
     b.behind s.at s.entry p.0 low (◌∙◌ {b = Some x.element} x.is (ap {B = Option Entry} (λ e. Some e) same)) p.1 p.2
 
+-- Where a line trimmed the log: the journal before it and after, by the run's moments
+
+module _ (law : Law) (lines : List NamedLine) (home : ℕ → ℕ) (nodes : ℕ) (run : NodeCourse) (looks : List (Option Looked)) (courses : ℕ → NodeCourse) (join : AreJoined law lines home nodes run looks courses) (n : ℕ) (least : 1 ≤ n) (most : n ≤ nodes) (j : ℕ) (l : NamedLine) (trim : ℕ) (t : IsTrim lines looks nodes n (courses n) j l trim) where
+  pub trim_began : Grows (moment run l.phase) t.before
+  trim_began = subst (λ m. Grows m t.before) (moment_is law lines home nodes run looks courses join n least most l.phase) t.began
+
+  pub trim_ended : Grows t.early (moment run (l.phase + 1))
+  trim_ended = subst (Grows t.early) (moment_is law lines home nodes run looks courses join n least most (l.phase + 1)) t.ended
+
+  pub trim_seen : Grows t.early run.seen
+  trim_seen = grows_both t.early (moment run (l.phase + 1)) run.seen trim_ended (run_seen law lines home nodes run looks courses join n least most (l.phase + 1))
+
+  pub early_legal : IsLegal law t.early
+  early_legal = grown_legal law t.early run.seen trim_seen (run_legal law lines home nodes run looks courses join (omega (arith, least, most)))
+
+  pub before_legal : IsLegal law t.before
+  before_legal = grown_legal law t.before t.early t.went early_legal
+
 -- Some node was the lowest
 
 module _ (law : Law) (lines : List NamedLine) (home : ℕ → ℕ) (nodes : ℕ) (run : NodeCourse) (looks : List (Option Looked)) (courses : ℕ → NodeCourse) (are : AreLines lines home nodes) (join : AreJoined law lines home nodes run looks courses) where
@@ -185,12 +204,11 @@ module _ (law : Law) (lines : List NamedLine) (home : ℕ → ℕ) (nodes : ℕ)
       by i m look come' (inl early) =
           let k = t.lowest.node in
           let is = moment_is law lines home nodes run looks courses join k t.lowest.least t.lowest.most (m.phase + 1) in
-          let up = run_upto law lines home nodes run looks courses join n there.0 there.1 (m.phase + 1) l.phase (omega (arith, early)) in
-          let legal = grown_legal law (moment run l.phase) run.seen (run_seen law lines home nodes run looks courses join n there.0 there.1 l.phase) (run_legal law lines home nodes run looks courses join (omega (arith, there.0, there.1))) in
           let stood : HasToldSo (moment run (m.phase + 1)) k look = subst (λ x. HasToldSo x k look) is ((join.did k t.lowest.least t.lowest.most).stand i m look come') in
-          let then' : HasToldSo (moment run l.phase) k look = stand_on (moment run (m.phase + 1)) (moment run l.phase) (λ x s. stands_on law (moment run (m.phase + 1)) (moment run l.phase) up.0 up.1 legal x s) k look stood in
-          let began = moment_is law lines home nodes run looks courses join n there.0 there.1 l.phase in
-          below (moment run l.phase) trim k look (subst (λ x. (c : Content) → StandsThere x c → SaysBelow trim k c) began t.lowest.stood) then'
+          let up = grows_both (moment run (m.phase + 1)) (moment run l.phase) t.before (run_upto law lines home nodes run looks courses join n there.0 there.1 (m.phase + 1) l.phase (omega (arith, early)))
+          (trim_began law lines home nodes run looks courses join n there.0 there.1 j l trim t) in
+          let then' : HasToldSo t.before k look = stand_on (moment run (m.phase + 1)) t.before (λ x s. stands_on law (moment run (m.phase + 1)) t.before up.0 up.1 (before_legal law lines home nodes run looks courses join n there.0 there.1 j l trim t) x s) k look stood in
+          below t.before trim k look t.lowest.stood then'
       by i m look come' (inr own) =
           let same : t.lowest.node ≡ n = sym come'.own ∙ (own.0 ∙ come.own) in
           t.lowest.own same i m look (record { is = come'.is; own = come'.own ∙ same; looked = come'.looked }) own.1
@@ -210,7 +228,10 @@ module _ (law : Law) (lines : List NamedLine) (home : ℕ → ℕ) (nodes : ℕ)
       let there = node_there law lines home nodes run looks courses are join n j l (looked.Trimmed trim) come in
       let t = (join.did n there.0 there.1).trims j l trim come in
       let same = (join.part n there.0 there.1).seen in
-      (subst (λ s. trim ≤ trim_of (state_of s)) same t.upto, (t.position, subst (λ s. StandsThere s (content.Trim t.position)) same t.stands))
+      let up = trim_seen law lines home nodes run looks courses join n there.0 there.1 j l trim t in
+      let rises = trim_rises law t.early run.seen up.0 up.1 (run_legal law lines home nodes run looks courses join (omega (arith, there.0, there.1))) in
+      let upto = t.upto in
+      (omega (arith, upto, rises), (t.position, subst (λ s. StandsThere s (content.Trim t.position)) same t.stands))
 
   -- a report stands behind what it reports, and below where the next phase begins
   pub report_behind : (run_may : MayRun law) (n i : ℕ) (l : NamedLine) (position : ℕ) → Came lines looks n i l (looked.Reported position)

@@ -1,12 +1,12 @@
 -- A line had its node trim the log.
 use Rattle.std.proofs.Common.{◌≡◌, refl, sym, ap, ◌∙◌, subst, ◌⊎◌, inl, inr, ⊎_elim, Contains, ℕ, ◌+◌, ◌<◌, ◌≤◌, List, [], ◌∷◌, Option, Some, None, length, map, slice_get, slice_set, arith}
+use Rattle.std.proofs.lemmas.Bool.{cases_lt}
 use Rattle.delos_types.specs.declared.entry.Entry.{Entry}
 use Rattle.legal_journal.specs.Law.{Law}
 use Rattle.legal_journal.specs.declared.events.Event.{Event}
-use Rattle.legal_journal.specs.Journal.{IsLegal, state_of, tail_of}
+use Rattle.legal_journal.specs.Journal.{IsLegal, state_of, tail_of, trim_of}
 use Rattle.virtual_log.specs.Sealing.{SealsNone}
 use Rattle.virtual_log.specs.declared.extend.Extension.{Extension}
-use Rattle.engine_api.specs.declared.content.Content.{Content}
 use Rattle.engine_api.specs.declared.content.Content.TheVariants as content
 use Rattle.engine_api.specs.declared.content.Placed.{Placed}
 use Rattle.engine_api.specs.Items.{unpack}
@@ -28,15 +28,15 @@ use Rattle.node_course.specs.Moments.{NodeCourse, moment, tails}
 use Rattle.node_course.specs.Played.{Came}
 use Rattle.node_course.specs.Desks.{IsOfNode}
 use Rattle.node_course.specs.Leaving.{LeftSo}
-use Rattle.node_course.specs.Reporting.{ReportedSo, StandsThere}
+use Rattle.node_course.specs.Reporting.{ReportedSo}
 use Rattle.node_course.specs.Telling.{HasToldSo, IsLowest, IsTrim, WasHeld}
 use Rattle.node_course.specs.Workers.{LineWent, NodeAt}
 use Rattle.node_course.proofs.Legal.{worker_legal}
 use Rattle.node_course.proofs.Keeping.{moments_or, own_upto}
-use Rattle.node_course.proofs.Stands.{stands_on}
-use Rattle.node_course.proofs.Told.{TellsOn, alone_is, command_is, stand_on, tells_one}
-use Rattle.node_course.proofs.Looks.{came_cases, came_on}
-use Rattle.node_course.proofs.Moments.{moment_on, moment_past, moment_seen}
+use Rattle.node_course.proofs.Stands.{stands_on, trim_rises}
+use Rattle.node_course.proofs.Told.{TellsOn, alone_is, command_is, stand_on, tells_one, told_asked}
+use Rattle.node_course.proofs.Looks.{came_cases, came_on, no_look}
+use Rattle.node_course.proofs.Moments.{grows_both, grows_not, moment_now, moment_on, moment_past, moment_seen}
 use Rattle.node_lines.proofs.Own.{stays_on}
 use Rattle.node_course.proofs.Lowest.{lowest_is}
 use Rattle.node_course.proofs.Lines.{at_get}
@@ -144,14 +144,7 @@ module _ (law : Law) (meaning : Meaning) (run : MayRun law) (lines : List NamedL
       none_now e p (inl all) among is = subst IsCommand is (command_is e p all among)
       none_now e p (inr alone) among is = apart (sym (alone_is (content.Trim adds.position) e p alone among) ∙ is)
 
-  -- what stood in the log as the phase began stands in what the node saw before the line
-  began : (x : Content) → StandsThere (moment then' line.phase) x → StandsThere c.seen x
-  began x there =
-      let up = moment_seen c was.did.rise line.phase in
-      let same : moment then' line.phase ≡ moment c line.phase = moment_past c then' line.phase refl (let long = was.did.long in omega (arith, long, phase)) in
-      stands_on law (moment c line.phase) c.seen up.0 up.1 was.did.legal x (subst (λ m. StandsThere m x) same there)
-
-  -- and so does what the node's lines before told
+  -- what the node's lines before told stood in the log before the line
   told_before : (j : ℕ) (m : NamedLine) (x : Looked) → Came lines looks' n j m x → j < i → HasToldSo c.seen n x
   told_before j m x come low = by (came_cases lines looks n i line look at not_yet j m x come)
     where
@@ -162,18 +155,46 @@ module _ (law : Law) (meaning : Meaning) (run : MayRun law) (lines : List NamedL
       by (inr it) = absurd (omega (arith, it.0, low))
 
   -- it trimmed the log no lower than some node needs
-  lowest : (trim : ℕ) → HasTrimmed (node_of seat c.seen) (node_of seat' journal) trim → IsLowest lines looks' nodes n then' i line trim
+  lowest : (trim : ℕ) → HasTrimmed (node_of seat c.seen) (node_of seat' journal) trim → IsLowest lines looks' nodes n c.seen i trim
   lowest trim h =
       let there = at_get (λ (l : NamedLine). (1 ≤ l.node) × (l.node ≤ nodes)) lines i line are.nodes_are at in
-      lowest_is law run.low c.seen journal does.moves.goes.spends.more does.moves.goes.spends.seen legal h.log h.front h.from lines looks' nodes n then' i line trim (omega (arith, there.0, node)) (omega (arith, there.1, node)) stays
-      (subst (λ k. least_position k (unpack_all 0 h.log) ≤ trim) was.nodes_is h.reached) began told_before
+      lowest_is law run.low c.seen journal does.moves.goes.spends.more does.moves.goes.spends.seen legal h.log h.front h.from lines looks' nodes n i trim (omega (arith, there.0, node)) (omega (arith, there.1, node)) stays
+      (subst (λ k. least_position k (unpack_all 0 h.log) ≤ trim) was.nodes_is h.reached) told_before
+
+  -- its lines before trimmed the log no further than it was then
+  earlier : (j : ℕ) (m : NamedLine) (less : ℕ) → Came lines looks' n j m (looked.Trimmed less) → j < i → less ≤ trim_of (state_of c.seen)
+  earlier j m less come low = by (came_cases lines looks n i line look at not_yet j m (looked.Trimmed less) come)
+    where
+      by : Came lines looks n j m (looked.Trimmed less) ⊎ ((j ≡ i) × (m ≡ line) × (look ≡ looked.Trimmed less)) → less ≤ trim_of (state_of c.seen)
+      by (inl before) =
+          let k = was.did.trims j m less before in
+          let up = grows_both k.early (moment c (m.phase + 1)) c.seen k.ended (moment_seen c was.did.rise (m.phase + 1)) in
+          let rises = trim_rises law k.early c.seen up.0 up.1 was.did.legal in
+          let upto = k.upto in
+          omega (arith, upto, rises)
+      by (inr it) = absurd (omega (arith, it.0, low))
+
+  -- by now none of its lines was played but those before, and this one
+  asked_before : (j : ℕ) (m : NamedLine) (x : Looked) → Came lines looks' n j m x → (m.asks ≡ asks.Admin Trim → ⊥) → j < i
+  asked_before j m x come other = by (came_cases lines looks n i line look at not_yet j m x come)
+    where
+      by : Came lines looks n j m x ⊎ ((j ≡ i) × (m ≡ line) × (look ≡ x)) → j < i
+      by (inl before) = ⊎_elim (λ (low : j < i). low) (λ (high : i ≤ j). absurd (no_look x (sym (was.waiting j m high before.is before.own) ∙ before.looked))) (cases_lt j i)
+      by (inr it) = absurd (other (ap (λ (y : NamedLine). y.asks) it.1 ∙ asks_is))
 
   trimmed : (trim : ℕ) → look ≡ looked.Trimmed trim → IsTrim lines looks' nodes n then' i line trim
   trimmed trim is =
       let h : So (looked.Trimmed trim) = subst So is does.trims in
       record {
+        before = c.seen;
+        early = journal;
+        began = subst (λ m. Grows m c.seen) (sym (moment_past c then' line.phase refl (let long = was.did.long in omega (arith, long, phase)))) (moment_seen c was.did.rise line.phase);
+        went = (does.moves.goes.spends.more, does.moves.goes.spends.seen);
+        ended = subst (Grows journal) (sym (moment_now then' (line.phase + 1) (let long = was.did.long in omega (arith, long, phase)))) (grows_not journal);
         lowest = lowest trim h.1;
+        earlier = earlier;
         upto = h.1.upto;
+        asked = told_asked lines looks' n (λ k m. k < i) journal asked_before tells.told;
         position = h.1.position;
         log = h.1.log;
         front = h.1.front;

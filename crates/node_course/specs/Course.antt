@@ -1,5 +1,5 @@
 -- What a node did in a run, by its own course.
-use Rattle.std.specs.Prelude.{◌≡◌, ℕ, ◌+◌, ◌≤◌, Bool, false, List, [], length, count_by, Option, Contains}
+use Rattle.std.specs.Prelude.{◌≡◌, ℕ, ◌+◌, ◌<◌, ◌≤◌, Bool, false, List, [], length, count_by, Option, Contains}
 use Rattle.std.specs.List.{AllByRecursion}
 use Rattle.delos_types.specs.declared.entry.Entry.{Entry}
 use Rattle.delos_types.specs.declared.cause.Cause.{Cause}
@@ -18,7 +18,7 @@ use Rattle.node_course.specs.Moments.{NodeCourse, moment, at_node}
 use Rattle.node_course.specs.Played.{Came, went_further}
 use Rattle.node_course.specs.Replacing.{Replaced}
 use Rattle.node_course.specs.Behind.{ReportsHold}
-use Rattle.node_course.specs.Telling.{AreTold, HasToldSo, AsksBehind, IsTrim}
+use Rattle.node_course.specs.Telling.{AreAsked, AreTold, HasToldSo, AsksBehind, IsTrim}
 
 -- The course of node n: each moment begins the next, and what the node appended by then lines of earlier phases ask; each fault that
 -- came to it had an event of its own; what its lines did to the chain; and what it told of itself. `looks` is what each line's own
@@ -39,6 +39,8 @@ pub record IsCourse (law : Law) (lines : List NamedLine) (nodes n : ℕ) (c : No
   pub seals : faults_of n c.seen ≡ [] → own_seals n c.seen ≤ went_further n lines looks
   -- what it told of itself lines had it tell, and what those lines came to stood in the log as the next phase began
   pub told : AreTold lines looks n c.seen
+  -- as a phase began, lines of earlier phases had asked it
+  pub asked : (p : ℕ) → p ≤ c.phase → AreAsked lines looks n (λ i l. l.phase < p) (moment c p)
   -- whenever it had begun to ask for a trim, the log had held a report of as much
   pub behind : AsksBehind n c.seen
   pub stand : (i : ℕ) (l : NamedLine) (look : Looked) → Came lines looks n i l look → HasToldSo (moment c (l.phase + 1)) n look

@@ -49,6 +49,10 @@ IsClean journal (content.Trim n) = IsCleanPoint journal n
 abbrev pub GoesFirst : ℕ → NamedLine → ℕ → NamedLine → Type 0
 GoesFirst i m j l = (m.phase < l.phase) ⊎ ((m.node ≡ l.node) × (i < j))
 
+-- line i isn't of a later phase than line j, nor a later line of the same node
+abbrev pub IsNotBehind : ℕ → NamedLine → ℕ → NamedLine → Type 0
+IsNotBehind j l i m = (m.phase ≤ l.phase) × (m.node ≡ l.node → i < j)
+
 -- Before line j, which trimmed the log to this trim, some node hadn't left, and had reported no more than this.
 pub record HadLowest (lines : List NamedLine) (looks : List (Option Looked)) (nodes j : ℕ) (l : NamedLine) (trim : ℕ) : Type 0 where
   pub node : ℕ

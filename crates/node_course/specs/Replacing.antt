@@ -1,9 +1,9 @@
 -- What a node's lines that asked for a replacement of the last loglet did to the chain, or found done.
 use Rattle.std.specs.Prelude.{◌≡◌, ℕ, ◌+◌, ◌<◌, ◌≤◌, List, ◌∷◌, ◌++◌, Option}
 use Rattle.delos_types.specs.declared.chain.Chain.{Chain}
-use Rattle.chain_map.specs.Chain.{last_id}
+use Rattle.chain_map.specs.Chain.{last_id, last_segment}
 use Rattle.legal_journal.specs.declared.events.Event.{Event}
-use Rattle.legal_journal.specs.Journal.{state_of}
+use Rattle.legal_journal.specs.Journal.{state_of, tail_of}
 use Rattle.journal_laws.specs.Versions.{IsFurther, write}
 use Rattle.virtual_log.specs.Turning.{HasEvent}
 use Rattle.virtual_log.specs.Writing.{IsAnothers}
@@ -18,13 +18,19 @@ use Rattle.node_lines.specs.declared.lines.Looked.TheVariants as looked
 use Rattle.node_course.specs.Moments.{NodeCourse, moment}
 use Rattle.node_course.specs.Played.{Came, went_further}
 
--- who wrote a chain that stands under this version
-pub record HasWritten (who version : ℕ) (journal : List Event) : Type 0 where
+-- who wrote a chain that stands under this version, whose last segment begins there
+pub record HasWritten (who version start : ℕ) (journal : List Event) : Type 0 where
   pub expected : ℕ
   pub chain : Chain
+  pub begins : (last_segment chain).start ≡ start
   pub before : List Event
   pub after : List Event
   pub seen : journal ≡ before ++ write who expected chain version ∷ after
+
+-- the log was so long at some time between these moments
+pub record WasSoLong (old new : List Event) (size : ℕ) : Type 0 where
+  pub from : tail_of (state_of old) ≤ size
+  pub upto : size ≤ tail_of (state_of new)
 
 -- another than who wrote a chain since old, which goes on behind the last loglet of then
 abbrev pub IsPassed : ℕ → List Event → List Event → Type 0
@@ -33,7 +39,7 @@ IsPassed who old new = HasEvent old (IsAnothers who (last_id (state_of old).regi
 -- Between two moments the last loglet was replaced by who, or by another; or there was none to replace it with, over a shelf of so
 -- many.
 abbrev pub IsReplaced : ℕ → ℕ → List Event → List Event → Extension → Type 0
-IsReplaced cells who old new (Extended version start) = GoesFurther (state_of old).register (state_of new).register version start × HasWritten who version new
+IsReplaced cells who old new (Extended version start) = GoesFurther (state_of old).register (state_of new).register version start × HasWritten who version start new × WasSoLong old new start
 IsReplaced cells who old new (Moved version) = IsFurther (state_of old).register (state_of new).register version × IsPassed who old new
 IsReplaced cells who old new NoSpare = last_id (state_of new).register.chain + 1 ≡ cells
 

@@ -1,5 +1,5 @@
 -- What lines asked a node to tell of itself, what stands in the log of it, and up to where the node trimmed the log.
-use Rattle.std.specs.Prelude.{◌≡◌, ℕ, ◌<◌, ◌≤◌, List, Option, Some, length, slice_get, Contains}
+use Rattle.std.specs.Prelude.{◌≡◌, ℕ, ◌+◌, ◌<◌, ◌≤◌, List, Option, Some, length, slice_get, Contains}
 use Rattle.delos_types.specs.declared.entry.Entry.{Entry}
 use Rattle.legal_journal.specs.declared.events.Event.{Event}
 use Rattle.legal_journal.specs.Journal.{state_of, trim_of}
@@ -66,6 +66,22 @@ ToldSo lines looks n journal (content.Trim position) = IsReported journal positi
 abbrev pub AreTold : List NamedLine → List (Option Looked) → ℕ → List Event → Type 0
 AreTold lines looks n journal = (e : Entry) (p : Placed) → Contains (appended_by n journal) e → Contains (unpack 0 e) p → ToldSo lines looks n journal p.content
 
+-- a line asked this of the node, it was played, P holds of what it came to, and it is one of these
+pub record AskedBy (lines : List NamedLine) (looks : List (Option Looked)) (node : ℕ) (These : ℕ → NamedLine → Type 0) (what : Admin) (P : Looked → Type 0) : Type 0 where
+  pub by : AskedFor lines looks node what P
+  pub these : These by.at by.line
+
+-- what the node reports, or that it leaves, one of these lines had it tell
+abbrev pub AskedSo : List NamedLine → List (Option Looked) → ℕ → (ℕ → NamedLine → Type 0) → Content → Type 0
+AskedSo lines looks n These (content.Session s r c) = Unit {0}
+AskedSo lines looks n These (content.Alive node position) = AskedBy lines looks n These Alive (TellsAtLeast position)
+AskedSo lines looks n These (content.Leave node) = AskedBy lines looks n These Retire (λ look. Unit {0})
+AskedSo lines looks n These (content.Trim position) = Unit {0}
+
+-- .. in each entry that it appended
+abbrev pub AreAsked : List NamedLine → List (Option Looked) → ℕ → (ℕ → NamedLine → Type 0) → List Event → Type 0
+AreAsked lines looks n These journal = (e : Entry) (p : Placed) → Contains (appended_by n journal) e → Contains (unpack 0 e) p → AskedSo lines looks n These p.content
+
 -- What stands in entries that anybody appended
 
 -- it stands behind what it tells, if that is how much is clean, or up to where the log is to be trimmed
@@ -112,20 +128,29 @@ SaysBelow trim node (content.Alive other n) = other ≡ node → n ≤ trim
 SaysBelow trim node (content.Leave other) = other ≡ node → ⊥
 SaysBelow trim node (content.Trim n) = Unit {0}
 
--- As the phase of line j of node n began, some node hadn't left by what stood in the log, and had reported no more than this there. If
+-- As line j of node n began, some node hadn't left by what stood in the log, and had reported no more than this there. If
 -- that is n itself, so it is by its own lines before line j.
-pub record IsLowest (lines : List NamedLine) (looks : List (Option Looked)) (nodes n : ℕ) (c : NodeCourse) (j : ℕ) (l : NamedLine) (trim : ℕ) : Type 0 where
+pub record IsLowest (lines : List NamedLine) (looks : List (Option Looked)) (nodes n : ℕ) (before : List Event) (j trim : ℕ) : Type 0 where
   pub node : ℕ
   pub least : 1 ≤ node
   pub most : node ≤ nodes
-  pub stood : (x : Content) → StandsThere (moment c l.phase) x → SaysBelow trim node x
+  pub stood : (x : Content) → StandsThere before x → SaysBelow trim node x
   pub own : node ≡ n → (i : ℕ) (m : NamedLine) (look : Looked) → Came lines looks n i m look → i < j → StaysBelow trim look
 
--- Line j trimmed the log to this trim: no lower than some node needs, and the log's trim isn't lower. An entry that asks for a
--- trim stands in the log: to the least position of a member in a front of it that reaches the phase's first tail.
+-- Line j trimmed the log to this trim: no lower than some node needs, nor than its lines before had, and the log's trim wasn't lower as it
+-- ended. By then the node had told of itself what lines before it asked. An entry that asks for a trim stands in the log: to the
+-- least position of a member in a front of it that reaches the phase's first tail.
 pub record IsTrim (lines : List NamedLine) (looks : List (Option Looked)) (nodes n : ℕ) (c : NodeCourse) (j : ℕ) (l : NamedLine) (trim : ℕ) : Type 0 where
-  pub lowest : IsLowest lines looks nodes n c j l trim
-  pub upto : trim ≤ trim_of (state_of c.seen)
+  -- the journal as the line began, and as it had ended
+  pub before : List Event
+  pub early : List Event
+  pub began : Grows (moment c l.phase) before
+  pub went : Grows before early
+  pub ended : Grows early (moment c (l.phase + 1))
+  pub lowest : IsLowest lines looks nodes n before j trim
+  pub earlier : (i : ℕ) (m : NamedLine) (less : ℕ) → Came lines looks n i m (looks_of.Trimmed less) → i < j → less ≤ trim_of (state_of before)
+  pub upto : trim ≤ trim_of (state_of early)
+  pub asked : AreAsked lines looks n (λ i m. i < j) early
   pub position : ℕ
   pub stands : StandsThere c.seen (content.Trim position)
   pub log : List Entry

@@ -1,5 +1,5 @@
 //! Laws of a run that its nodes tell together. Each function does nothing: its contract is the law.
-ghost use Rattle.std.specs.Prelude.{◌≡◌, ◌≢◌, ◌⊎◌, ◌<◌, ◌≤◌, ◌+◌, ℕ, Bool, true, false, List, [], length, count_by, Contains, Option, Some, slice_get};
+ghost use Rattle.std.specs.Prelude.{◌≡◌, ◌⊎◌, ◌<◌, ◌≤◌, ◌+◌, ℕ, Bool, true, false, List, [], length, count_by, Contains, Option, Some, slice_get};
 ghost use Rattle.std.specs.List.{AllByRecursion};
 ghost use Rattle.delos_types.specs.declared.entry.Entry.{Entry};
 ghost use Rattle.delos_types.specs.declared.cause.Cause.{Cause};
@@ -21,6 +21,7 @@ ghost use Rattle.turn_scopes.specs.Seats.{SeatView};
 ghost use Rattle.script_text.specs.declared.line.Admin.TheVariants.{Alive, Retire};
 ghost use Rattle.script_text.specs.declared.asks.NamedLine.{NamedLine};
 ghost use Rattle.fitting_run.specs.Faults.{lacks_store};
+ghost use Rattle.fitting_run.specs.Replacements.{goes_by_ones};
 ghost use Rattle.node_lines.specs.declared.desk.Desk.{Desk};
 ghost use Rattle.node_lines.specs.declared.lines.Looked.{Looked};
 ghost use Rattle.node_lines.specs.declared.lines.Looked.TheVariants as looked;
@@ -48,21 +49,25 @@ pub fn a_run_goes_by_moments<P: Rules>()
         → AreJoined P.law lines home nodes run looks courses → 1 ≤ nodes → Grows (moment run p) (moment run (p + 1)) }
 {}
 
-/// Lines of a run that replaced the last loglet have different versions, by whichever nodes; over phases and along a node versions
-/// rise; what each came to stands at the end; and where a line found that another node had replaced it, another did in its phase.
+/// Lines of a run that replaced the last loglet have different versions, by whichever nodes, and the segment of the higher one doesn't
+/// begin lower; each begins where the log ended at some time in its line's phase. Over phases and along a node versions rise; what
+/// each came to stands at the end; and where a line found that another node had replaced it, another did in its phase.
 pub fn versions_are_in_order<P: Rules>()
     ensures stand { (lines : List NamedLine) (home : ℕ → ℕ) (nodes : ℕ) (run : NodeCourse) (looks : List (Option Looked)) (courses : ℕ → NodeCourse) (n i : ℕ) (l : NamedLine) (x : Extension)
         → AreLines lines home nodes → AreJoined P.law lines home nodes run looks courses → Came lines looks n i l (looked.Extended x) → IsReplaced (length P.law.shelf) n (moment run l.phase) run.seen x }
     ensures passed { (lines : List NamedLine) (home : ℕ → ℕ) (nodes : ℕ) (run : NodeCourse) (looks : List (Option Looked)) (courses : ℕ → NodeCourse) (n i : ℕ) (l : NamedLine) (v : ℕ)
         → AreLines lines home nodes → AreJoined P.law lines home nodes run looks courses → Came lines looks n i l (looked.Extended (Moved v)) → IsPassed n (moment run l.phase) (moment run (l.phase + 1)) }
     ensures apart { (lines : List NamedLine) (home : ℕ → ℕ) (nodes : ℕ) (run : NodeCourse) (looks : List (Option Looked)) (courses : ℕ → NodeCourse) (a b i j : ℕ) (l m : NamedLine) (v w start other : ℕ)
-        → AreLines lines home nodes → AreJoined P.law lines home nodes run looks courses → Came lines looks a i l (looked.Extended (Extended v start)) → Came lines looks b j m (looked.Extended (Extended w other)) → i < j → v ≢ w }
+        → AreLines lines home nodes → AreJoined P.law lines home nodes run looks courses → Came lines looks a i l (looked.Extended (Extended v start)) → Came lines looks b j m (looked.Extended (Extended w other)) → i < j → ((v < w) × (start ≤ other)) ⊎ ((w < v) × (other ≤ start)) }
+    ensures begins { (lines : List NamedLine) (home : ℕ → ℕ) (nodes : ℕ) (run : NodeCourse) (looks : List (Option Looked)) (courses : ℕ → NodeCourse) (n i : ℕ) (l : NamedLine) (v start : ℕ)
+        → AreLines lines home nodes → AreJoined P.law lines home nodes run looks courses → Came lines looks n i l (looked.Extended (Extended v start)) → (tails run l.phase ≤ start) × (start ≤ tails run (l.phase + 1)) }
     ensures rise { (lines : List NamedLine) (home : ℕ → ℕ) (nodes : ℕ) (run : NodeCourse) (looks : List (Option Looked)) (courses : ℕ → NodeCourse) (a b i j : ℕ) (l m : NamedLine) (x y : Extension)
         → AreLines lines home nodes → AreJoined P.law lines home nodes run looks courses → Came lines looks a i l (looked.Extended x) → Came lines looks b j m (looked.Extended y) → i < j → (l.phase < m.phase) ⊎ (l.node ≡ m.node) → GoesBefore x y }
 {}
 
 /// The last loglet of a run's chain is at least each node's number of lines that found the chain further on. Where no fault came, and only
-/// nodes began Seals, it is at most the number of all of those. Where nothing is trimmed, each loglet up to it has a segment.
+/// nodes began Seals, it is at most the number of all of those. Where nothing is trimmed, each loglet up to it has a segment. Each version
+/// of the chain made one loglet more, or trimmed the log.
 pub fn the_chain_is_told<P: Rules>()
     ensures each { (lines : List NamedLine) (home : ℕ → ℕ) (nodes : ℕ) (run : NodeCourse) (looks : List (Option Looked)) (courses : ℕ → NodeCourse) (n : ℕ)
         → AreJoined P.law lines home nodes run looks courses → 1 ≤ n → n ≤ nodes → went_further n lines looks ≤ last_id (state_of run.seen).register.chain }
@@ -72,6 +77,8 @@ pub fn the_chain_is_told<P: Rules>()
     ensures segments { (lines : List NamedLine) (home : ℕ → ℕ) (nodes : ℕ) (run : NodeCourse) (looks : List (Option Looked)) (courses : ℕ → NodeCourse)
         → AreJoined P.law lines home nodes run looks courses → 1 ≤ nodes → trim_of (state_of run.seen) ≡ 0
         → length (state_of run.seen).register.chain.segments ≡ last_id (state_of run.seen).register.chain + 1 }
+    ensures versions { (lines : List NamedLine) (home : ℕ → ℕ) (nodes : ℕ) (run : NodeCourse) (looks : List (Option Looked)) (courses : ℕ → NodeCourse)
+        → AreJoined P.law lines home nodes run looks courses → 1 ≤ nodes → goes_by_ones (state_of run.seen).register.version (state_of run.seen).register.chain ≡ true }
 {}
 
 /// Each fault of a run had an event of its own, and came to one of the nodes. Those of a node's store are its own.

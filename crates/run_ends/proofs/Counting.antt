@@ -1,5 +1,5 @@
 -- Each fault that came was counted, and stands in the yard.
-use Rattle.std.proofs.Common.{◌≡◌, refl, sym, ap, ◌∙◌, subst, ◌⊎◌, inl, inr, ℕ, zero, suc, ◌+◌, ◌-◌, ◌^◌, ◌<◌, ◌≤◌, ◌==◌, ◌&&◌, nat_le, min, Bool, true, false, cond, List, [], ◌∷◌, Option, Some, None, length, Contains, count_by, slice_get, arith, eqb-true, eq-eqb, le-leb}
+use Rattle.std.proofs.Common.{◌≡◌, refl, sym, ap, ◌∙◌, subst, ◌⊎◌, inl, inr, ℕ, zero, suc, ◌+◌, ◌-◌, ◌^◌, ◌<◌, ◌≤◌, ◌==◌, ◌&&◌, nat_le, min, max, if◌then◌else◌, Bool, true, false, cond, List, [], ◌∷◌, Option, Some, None, length, Contains, count_by, slice_get, arith, eqb-true, eq-eqb, le-leb}
 use Rattle.std.specs.List.{AllByRecursion}
 use Rattle.std.proofs.lemmas.Bool.{and_from, and_parts, both_ways, cases_lt, false_from_ne_true, or_left, or_right}
 use Rattle.std.proofs.lemmas.Option.{slice_get_within, slice_get_cases}
@@ -14,24 +14,33 @@ use Rattle.legal_journal.specs.Law.{Law}
 use Rattle.legal_journal.specs.declared.events.Event.{Event}
 use Rattle.legal_journal.specs.Journal.{IsLegal}
 use Rattle.fabric_core.specs.Runs.{HasRun, HasRegisterRun}
-use Rattle.replica_api.specs.Replica.{Meaning}
 use Rattle.log_laws.proofs.Pairs.{all-imply}
 use Rattle.journal_laws.specs.Faults.{faults_in, is_lack_of, is_full_of, is_meta}
 use Rattle.script_text.specs.declared.asks.NamedLine.{NamedLine}
 use Rattle.row_text.specs.declared.row.Row.{Row}
 use Rattle.fitting_run.specs.Yard.{Shown}
 use Rattle.fitting_run.specs.Tests.{some_is}
-use Rattle.fitting_run.specs.Faults.{is_full, lacks_of, faults_of, disk_faults, stands, lacks_quorum, finds_full, lacks_register, lacks_store}
+use Rattle.fitting_run.specs.Faults.{is_full, lacked, lacks_of, faults_of, disk_faults, stands, lacks_quorum, finds_full, lacks_register, lacks_store}
 use Rattle.node_lines.specs.declared.lines.Looked.{Looked}
 use Rattle.run_laws.specs.Ended.{Played, Fault, FaultsCame, PaidStands, counted, most_faults, paid_by, pays}
 use Rattle.run_laws.proofs.Members.{Among, all-at, all-of, contains-among}
 use Rattle.node_course.specs.Script.{failed_looks, failure_of_look}
 use Rattle.node_course.proofs.Lines.{count-cons}
 use Rattle.node_course.proofs.Faulting.{all_events, of_nodes, own_stores}
+use Rattle.replica_api.specs.Replica.{Meaning, ReplicaView}
+use Rattle.node_lines.specs.Moving.{strikes}
 use Rattle.run_ends.specs.Closing.{WorkerEnd, HasClosed, IsGivenBack}
 use Rattle.run_ends.specs.Rows.{played_of}
+use Rattle.run_ends.proofs.Lacking.{lack_of_servers}
 
 -- Counting
+
+pub strikes_most : (r : ReplicaView) → strikes r ≤ max r.faults 1
+strikes_most r = by r.down
+  where
+    by : (b : Bool) → (if b then r.faults else max r.faults 1) ≤ max r.faults 1
+    by true = omega arith
+    by false = omega arith
 
 zero_or : (n : ℕ) → (n ≡ 0) ⊎ (1 ≤ n)
 zero_or zero = inl refl
@@ -242,25 +251,26 @@ module _ (law : Law) (told : AreCounted law) (meaning : Meaning) (lines : List N
 
   -- The stores
 
-  stores_few : (n : ℕ) → min (came_by (lacks_store n)) most_faults ≤ disk_faults yard.disks n
+  stores_few : (n : ℕ) → min (came_by (lacks_store n)) (most_faults - 1) ≤ disk_faults yard.disks n - 1
   stores_few n = elim (cases_lt 0 n) [
     | inl least ↦ elim ((slice_get_cases workers (n - 1)).1) [
-      | inl some ↦ (let e : n - 1 + 1 ≡ n = omega (arith, least) in subst (λ m. min (came_by (lacks_store m)) most_faults ≤ disk_faults yard.disks m) e (at_worker (n - 1) some.0 some.2))
+      | inl some ↦ (let e : n - 1 + 1 ≡ n = omega (arith, least) in subst (λ m. min (came_by (lacks_store m)) (most_faults - 1) ≤ disk_faults yard.disks m - 1) e (at_worker (n - 1) some.0 some.2))
       | inr none ↦ nowhere (λ low high. let over = none.0 in omega (arith, over, low, high))
     ]
     | inr none ↦ nowhere (λ low high. omega (arith, none, low))
   ]
     where
-      at_worker : (j : ℕ) (w : WorkerEnd) → slice_get workers j ≡ Some w → min (came_by (lacks_store (j + 1))) most_faults ≤ disk_faults yard.disks (j + 1)
+      at_worker : (j : ℕ) (w : WorkerEnd) → slice_get workers j ≡ Some w → min (came_by (lacks_store (j + 1))) (most_faults - 1) ≤ disk_faults yard.disks (j + 1) - 1
       at_worker j w is =
           let counts = (h.each j w is).rests.node.stores in
           let low = slice_get_within workers j w is in
           let same = own_stores law lines h.home (length workers) h.run looks h.courses h.joined (j + 1) (omega arith) (omega (arith, low)) in
           let disk = back.disks j w is in
-          omega (arith, counts, same, disk)
+          let most = strikes_most w.seat.node.replica in
+          omega (arith, counts, same, disk, most)
 
       -- nothing comes of a node that isn't there
-      nowhere : (1 ≤ n → n ≤ length workers → ⊥) → min (came_by (lacks_store n)) most_faults ≤ disk_faults yard.disks n
+      nowhere : (1 ≤ n → n ≤ length workers → ⊥) → min (came_by (lacks_store n)) (most_faults - 1) ≤ disk_faults yard.disks n - 1
       nowhere out =
           let looked = failed_none (lacks_store n) lines looks (all-imply (λ (l : NamedLine). (1 ≤ l.node) × (l.node ≤ length workers)) (λ (l : NamedLine). (k : Cause) → lacks_store n l.node k ≡ false) lines not_looked h.lines_are.nodes_are) in
           elim (zero_or (count_by (λ f. lacks_store n f.node f.cause) faults)) [
@@ -289,12 +299,20 @@ module _ (law : Law) (told : AreCounted law) (meaning : Meaning) (lines : List N
   told_one : (P : Cause → Bool) (n : ℕ) (k : Cause) → P cause.Store ≡ false → P k ≡ true → ((j : Cause) → P j ≡ true → j ≡ k) → Came n k → Contains (faults_in journal) k
   told_one P n k store is only came = in_journal_one P k only (let a = in_journal P store in let b = came (λ m. P) is in omega (arith, a, b))
 
-  lack_stands : (id unreached : ℕ) → Contains (faults_in journal) (cause.NoQuorum id unreached) → (nat_le 1 unreached && nat_le 1 (lacks_of (slice_get yard.cells id)) && nat_le 1 (faults_of (slice_get yard.cells id))) ≡ true
+  lack_stands : (id unreached : ℕ) → Contains (faults_in journal) (cause.NoQuorum id unreached) → some_is (slice_get yard.cells id) (lacked unreached) ≡ true
   lack_stands id unreached has =
       let v = cell_there id (told.lack_there id unreached journal back.legal has) in
       let l = told.lack id unreached journal v.0 (back.runs id v.0 v.1) has in
-      subst (λ o. (nat_le 1 unreached && nat_le 1 (lacks_of o) && nat_le 1 (faults_of o)) ≡ true) (sym v.1)
-      (and_from (nat_le 1 unreached && nat_le 1 v.0.lacks) (nat_le 1 v.0.faults) (and_from (nat_le 1 unreached) (nat_le 1 v.0.lacks) (le-leb 1 unreached l.0) (le-leb 1 v.0.lacks l.1))
+      let s = lack_of_servers id unreached journal v.0 (back.runs id v.0 v.1) has in
+      let some = nat_le 1 unreached in
+      let enough = nat_le v.0.quorum unreached in
+      let there = nat_le unreached v.0.servers in
+      let lacks = nat_le 1 v.0.lacks in
+      subst (λ o. some_is o (lacked unreached) ≡ true) (sym v.1)
+      (and_from (some && enough && there && lacks) (nat_le 1 v.0.faults)
+      (and_from (some && enough && there) lacks
+      (and_from (some && enough) there (and_from some enough (le-leb 1 unreached l.0) (le-leb v.0.quorum unreached s.0)) (le-leb unreached v.0.servers s.1))
+      (le-leb 1 v.0.lacks l.1))
       (le-leb 1 v.0.faults l.2))
 
   full_stands : (id : ℕ) → Contains (faults_in journal) (cause.Full id) → some_is (slice_get yard.cells id) is_full ≡ true

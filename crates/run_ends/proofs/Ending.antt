@@ -1,6 +1,6 @@
 -- A run whose nodes have closed has ended.
-use Rattle.std.proofs.Common.{◌≡◌, refl, sym, ap, ◌∙◌, subst, ⊎_elim, ◌⊎◌, ℕ, zero, suc, ◌+◌, ◌-◌, ◌<◌, ◌≤◌, ◌==◌, ◌&&◌, true, List, [], ◌∷◌, ◌++◌, Some, None, is_some, map, length, take, drop, slice_get, Option, Contains, arith, eq-eqb, take-append-drop}
-use Rattle.std.specs.List.{AllByRecursion}
+use Rattle.std.proofs.Common.{◌≡◌, refl, sym, ap, ◌∙◌, subst, ⊎_elim, ◌⊎◌, ℕ, zero, suc, ◌+◌, ◌-◌, ◌<◌, ◌≤◌, ◌==◌, ◌&&◌, true, List, [], ◌∷◌, ◌++◌, Some, None, is_some, map, filter_map, length, take, drop, slice_get, Option, Contains, arith, eq-eqb, take-append-drop}
+use Rattle.std.specs.List.{AllByRecursion, Any, cons_option}
 use Rattle.std.proofs.lemmas.Bool.{and_from}
 use Rattle.std.proofs.lemmas.List.{length-map, length-take}
 use Rattle.std.proofs.lemmas.Option.{slice_get_within}
@@ -8,12 +8,18 @@ use Rattle.delos_types.specs.declared.entry.Entry.{Entry}
 use Rattle.delos_types.specs.declared.chain.Chain.{Chain}
 use Rattle.legal_journal.specs.Law.{Law}
 use Rattle.legal_journal.specs.declared.events.Event.{Event}
-use Rattle.legal_journal.specs.Journal.{IsLegal, state_of, tail_of, trim_of}
+use Rattle.legal_journal.specs.Journal.{IsLegal, State, entries, log_at, reach, state_of, tail_of, trim_of}
+use Rattle.legal_journal.proofs.Legal.{sound}
 use Rattle.legal_journal.proofs.Log.{slice_get_front}
+use Rattle.legal_journal.proofs.Sound.{log_from}
 use Rattle.virtual_log.specs.Holding.{Holds}
 use Rattle.delos_types.specs.declared.place.Place.{Place}
+use Rattle.table_core.specs.declared.command.Found.{Found}
+use Rattle.table_core.specs.declared.command.Command.{Command}
 use Rattle.engine_api.specs.declared.content.Content.{Content}
 use Rattle.engine_api.specs.declared.content.Content.TheVariants as content
+use Rattle.engine_api.specs.declared.content.Placed.{Placed}
+use Rattle.engine_api.specs.Items.{unpack}
 use Rattle.engine_api.specs.Acted.{Asked, asked_in}
 use Rattle.engine_api.specs.Order.{first_of, is_clean}
 use Rattle.replica_api.specs.Replica.{Meaning}
@@ -25,7 +31,10 @@ use Rattle.script_text.specs.declared.asks.Asks.TheVariants as asks
 use Rattle.row_text.specs.declared.row.Outcome.{Outcome}
 use Rattle.row_text.specs.declared.row.Outcome.TheVariants as out
 use Rattle.fabric_core.specs.Fabric.{IsRegisterAsTold}
+use Rattle.fabric_core.specs.Log.{numbers, virtual_log, virtual_log_at, virtual_tail}
+use Rattle.log_laws.proofs.Pairs.{all-append}
 use Rattle.fitting_run.specs.declared.told.Told.{Told}
+use Rattle.fitting_run.specs.Acts.{AsksFor, HoldsLines}
 use Rattle.fitting_run.specs.Fits.{ChainIsRegistered}
 use Rattle.fitting_run.specs.Lines.{are_in_phase, are_ranked, is_of, logs_for}
 use Rattle.fitting_run.specs.Yard.{Shown}
@@ -37,14 +46,14 @@ use Rattle.node_lines.specs.declared.lines.Looked.{Looked}
 use Rattle.node_lines.specs.declared.lines.Looked.TheVariants as looked
 use Rattle.node_lines.specs.Workers.{IsHome, MayRun}
 use Rattle.node_lines.proofs.Bounding.{front_below}
-use Rattle.run_ends.specs.Rules.{AreOfLines, may_of}
+use Rattle.run_ends.specs.Rules.{AreOfLines, IsLineOf, LogsRank, may_of}
 use Rattle.run_ends.proofs.Rules.{asked_by, session_home}
 use Rattle.run_laws.specs.Ended.{AllAfter, CameOf, FaultsCame, IsAtHome, IsOfEarlier, IsOfLine, LineEnded, LogStands, LogsThis, Played, Replacements, RunEnded, SaysFrom, SaysTrim, SessionEnded, StandsFrom, rank_in}
-use Rattle.run_laws.proofs.Members.{among-found, contained-among}
+use Rattle.run_laws.proofs.Members.{among-found, among-get, contained-among, contains-among}
 use Rattle.node_course.specs.Moments.{moment, tails}
 use Rattle.node_course.specs.Reporting.{StandsThere}
 use Rattle.node_course.specs.Telling.{AskedFor, TellsAtLeast}
-use Rattle.node_course.proofs.Behind.{rank_high, read_high}
+use Rattle.node_course.proofs.Behind.{rank_high, read_forward, read_high, report_high}
 use Rattle.node_course.proofs.Moments.{grown_legal, grown_on}
 use Rattle.node_course.proofs.Parts.{run_rises, run_seen}
 use Rattle.node_course.proofs.Ranks.{node_is_home, rank_counts}
@@ -56,6 +65,7 @@ use Rattle.run_ends.proofs.Turns.{all_lines, lines_are, rows_are, some_at, turn_
 use Rattle.run_ends.proofs.Lines.{early_line, leave_played}
 use Rattle.run_ends.proofs.Sessions.{legal as run_is_legal, size as looks_size, some as some_node}
 use Rattle.run_ends.proofs.Placing.{appeared_by}
+use Rattle.run_ends.proofs.Finding.{read_is}
 use Rattle.run_ends.proofs.Reports.{alive_is, retired_is}
 use Rattle.run_ends.proofs.Showing.{stood_from}
 use Rattle.run_ends.proofs.Trims.{clean_below, trimmed_is, trims_ended}
@@ -107,6 +117,54 @@ module _ (law : Law) (meaning : Meaning) (run : MayRun law) (lines : List NamedL
   -- each entry of the log is some line's
   of_lines : AreOfLines lines log
   of_lines = each_there (λ (e : Entry). (who : ℕ) × may_of lines who e) log (λ pos e at. let sent = held_sent law journal pos e back.legal (h.front pos e at) in (sent.0, mine sent.0 e sent.1))
+
+  -- what a line has the node append is what it asks
+  is_asked : (who : ℕ) (c : Content) → IsLineOf lines who c → Any (λ (l : NamedLine). (l.node ≡ who) × AsksFor l.node l.asks c) lines
+  is_asked who c h = by c h
+    where
+      at_line : (c : Content) (at : ℕ) (l : NamedLine) → slice_get lines at ≡ Some l → l.node ≡ who → AsksFor l.node l.asks c → Any (λ (l : NamedLine). (l.node ≡ who) × AsksFor l.node l.asks c) lines
+      at_line c at l is node asks = let k = contains-among lines l (among-get lines at l is) in (k.0, l, k.1, k.2, (node, asks))
+
+      logged : (n : ℕ) (a : Asks) (s r : ℕ) (command : Option Command) → LogsRank a s r command → AsksFor n a (content.Session s r command)
+      logged n (asks.Logged session rank c) s r command k = k
+      logged n (asks.Look session query) s r command k = absurd k
+      logged n (asks.Admin a) s r command k = absurd k
+
+      by : (c : Content) → IsLineOf lines who c → Any (λ (l : NamedLine). (l.node ≡ who) × AsksFor l.node l.asks c) lines
+      by (content.Session s r command) k = at_line (content.Session s r command) k.at k.line k.is k.node (logged k.line.node k.line.asks s r command k.logs)
+      by (content.Alive node position) k = at_line (content.Alive node position) k.1.at k.1.line k.1.is k.1.node (subst (λ a. AsksFor k.1.line.node a (content.Alive node position)) (sym k.1.asks) (k.0 ∙ sym k.1.node))
+      by (content.Leave node) k = at_line (content.Leave node) k.1.at k.1.line k.1.is k.1.node (subst (λ a. AsksFor k.1.line.node a (content.Leave node)) (sym k.1.asks) (k.0 ∙ sym k.1.node))
+      by (content.Trim position) k = at_line (content.Trim position) k.at k.line k.is k.node (subst (λ a. AsksFor k.line.node a (content.Trim position)) (sym k.asks) tt)
+
+  -- each entry holds what lines ask of the node that proposed it
+  holds_lines : (es : List Entry) → AreOfLines lines es → AllByRecursion (HoldsLines lines) es
+  holds_lines [] h = tt
+  holds_lines (e ∷ es) h =
+      (subst (λ n. AllByRecursion (λ p. Any (λ (l : NamedLine). (l.node ≡ n) × AsksFor l.node l.asks p.content) lines) (unpack 0 e)) (sym h.0.1.own) (each (unpack 0 e) h.0.1.items), holds_lines es h.1)
+    where
+      each : (ps : List Placed) → AllByRecursion (λ p. IsLineOf lines h.0.0 p.content) ps → AllByRecursion (λ p. Any (λ (l : NamedLine). (l.node ≡ h.0.0) × AsksFor l.node l.asks p.content) lines) ps
+      each [] k = tt
+      each (p ∷ ps) k = (is_asked h.0.0 p.content k.0, each ps k.1)
+
+  -- each entry that the loglets show is some line's
+  shown_of_lines : (a n : ℕ) → trim_of (state_of journal) ≤ a → AreOfLines lines (filter_map (virtual_log_at o.chain yard.cells) (numbers a n))
+  shown_of_lines a zero high = tt
+  shown_of_lines a (suc n) high = by (virtual_log_at o.chain yard.cells a) refl (shown_of_lines (a + 1) n (omega (arith, high)))
+    where
+      w : State
+      w = state_of journal
+
+      by : (s : Option Entry) → virtual_log_at o.chain yard.cells a ≡ s → AreOfLines lines (filter_map (virtual_log_at o.chain yard.cells) (numbers (a + 1) n)) → AreOfLines lines (cons_option s (filter_map (virtual_log_at o.chain yard.cells) (numbers (a + 1) n)))
+      by None is rest = rest
+      by (Some e) is rest =
+          let there : log_at w a ≡ Some e = sym (back.shows a high) ∙ ap (λ k. virtual_log_at k yard.cells a) (sym back.chain_is) ∙ is in
+          let sent = held_sent law journal a e back.legal (record {
+            version = w.register.version;
+            chain = w.register.chain;
+            given = (sound law journal back.legal).given;
+            entry = (log_from (reach w.cells) (entries w.cells) w.register.chain a e there).1;
+          }) in
+          ((sent.0, mine sent.0 e sent.1), rest)
 
   -- an entry of the log's first ones is that of the log
   first_is : (n pos : ℕ) (e : Entry) → slice_get (take n log) pos ≡ Some e → slice_get log pos ≡ Some e
@@ -183,13 +241,26 @@ module _ (law : Law) (meaning : Meaning) (run : MayRun law) (lines : List NamedL
       let r = (trim_stands law lines h.home (length workers) h.run looks h.courses h.lines_are h.joined k.line.node j k.line trim (record { is = k.line_at; own = refl; looked = k.look_at ∙ ap Some so.1 })).1 in
       record { position = r.0; above = omega arith; says = stood (content.Trim r.0) 0 r.1 (omega (arith, none)) (omega arith) }
 
+  -- the reads of one node look forward
+  forward : (i j : ℕ) (t u : Played) (after later : ℕ) (found next : Found) → slice_get played i ≡ Some t → slice_get played j ≡ Some u → i < j → t.line.node ≡ u.line.node → t.row.outcome ≡ out.Read after found → u.row.outcome ≡ out.Read later next → after ≤ later
+  forward i j t u after later found next at there low same is it =
+      let k = turn_is lines o.rows looks i t at in
+      let row = are.each i k.line k.look k.row k.line_at k.look_at k.row_at in
+      let a = read_is (desk_for workers k.line.node k.line.asks) k.look k.line.asks k.row.outcome after found row.tells (sym (ap (λ (y : Played). y.row.outcome) k.is) ∙ is) in
+      let m = turn_is lines o.rows looks j u there in
+      let other = are.each j m.line m.look m.row m.line_at m.look_at m.row_at in
+      let b = read_is (desk_for workers m.line.node m.line.asks) m.look m.line.asks m.row.outcome later next other.tells (sym (ap (λ (y : Played). y.row.outcome) m.is) ∙ it) in
+      let nodes : m.line.node ≡ k.line.node = sym (sym (ap (λ (y : Played). y.line.node) k.is) ∙ same ∙ ap (λ (y : Played). y.line.node) m.is) in
+      read_forward law lines h.home (length workers) h.run looks h.courses h.lines_are h.joined k.line.node i j k.line m.line a.session a.query after later found next
+      (record { is = k.line_at; own = refl; looked = k.look_at ∙ ap Some a.look_is }) (record { is = m.line_at; own = nodes; looked = m.look_at ∙ ap Some b.look_is }) a.asks_is low
+
   below : length log ≤ tail_of (state_of journal)
   below = front_below law run.low journal log back.legal h.front
 
   -- what lines did to the chain, by the register at the end
   replaced : Replacements played o.version o.chain (length yard.cells)
   replaced =
-      replacements law lines h.home h.run h.courses workers looks o.rows h.lines_are h.joined are size h.beside o.version o.chain (length yard.cells)
+      replacements law lines h.home h.run h.courses workers looks o.rows h.lines_are h.joined are size h.beside some o.version o.chain (length yard.cells)
       (ap (λ es. (state_of es).register.version) h.seen_is ∙ sym told.given ∙ sym registered.version) (ap (λ es. (state_of es).register.chain) h.seen_is ∙ sym back.chain_is)
       (sym (ap length back.shelf_is) ∙ length-map yard.cells (λ v. v.servers))
 
@@ -227,7 +298,11 @@ module _ (law : Law) (meaning : Meaning) (run : MayRun law) (lines : List NamedL
     behind i j l m clean at there low same told look came d b u (asks.Admin a) (out.Extended version start) is t k = tt
     behind i j l m clean at there low same told look came d b u (asks.Admin a) (out.Moved version) is t k = tt
     behind i j l m clean at there low same told look came d b u (asks.Admin a) out.NoSpare is t k = tt
-    behind i j l m clean at there low same told look came d b u (asks.Admin a) (out.Alive n) is t k = tt
+    behind i j l m clean at there low same told look came None b u (asks.Admin Alive) (out.Alive n) is t k = report_high law lines h.home (length workers) h.run looks h.courses h.lines_are h.joined l.node i j l m clean n (record { is = at; own = refl; looked = told }) (record { is = there; own = sym same; looked = came ∙ ap Some t }) low
+    behind i j l m clean at there low same told look came (Some d) b u (asks.Admin Alive) (out.Alive n) is t k = absurd t
+    behind i j l m clean at there low same told look came d b u (asks.Admin Extend) (out.Alive n) is t k = absurd k
+    behind i j l m clean at there low same told look came d b u (asks.Admin Trim) (out.Alive n) is t k = absurd k
+    behind i j l m clean at there low same told look came d b u (asks.Admin Retire) (out.Alive n) is t k = absurd k
     behind i j l m clean at there low same told look came d b u (asks.Admin a) (out.Trimmed trim) is t k = tt
     behind i j l m clean at there low same told look came d b u (asks.Admin a) out.Retired is t k = tt
     behind i j l m clean at there low same told look came d b u (asks.Admin a) (out.Open cause) is t k = tt
@@ -282,6 +357,11 @@ module _ (law : Law) (meaning : Meaning) (run : MayRun law) (lines : List NamedL
           let low = short in
           stands below (omega (arith, same, low))
           (subst (λ n. is_clean (λ s. 1) (asked_in 0 (take n log)) ≡ true) same (clean_below law meaning run lines journal looks log workers o yard mine floor_is h are back short)));
+      asked = subst (λ ls. AllByRecursion (HoldsLines ls) (log ++ virtual_log o.chain yard.cells (length log) (virtual_tail o.chain yard.cells))) (sym played_lines)
+          (all-append (HoldsLines lines) log (virtual_log o.chain yard.cells (length log) (virtual_tail o.chain yard.cells)) (holds_lines log of_lines)
+          (let low = short in
+          let same = ap (λ (k : Chain). k.trim) back.chain_is in
+          holds_lines (virtual_log o.chain yard.cells (length log) (virtual_tail o.chain yard.cells)) (shown_of_lines (length log) (virtual_tail o.chain yard.cells - length log) (omega (arith, low, same)))));
       sent = sent;
       early = early;
       lines = lines_ended;
@@ -290,6 +370,7 @@ module _ (law : Law) (meaning : Meaning) (run : MayRun law) (lines : List NamedL
       reported = reported;
       left = left;
       above = above;
+      forward = forward;
       trims = trims_ended law meaning run lines journal looks log workers o yard mine floor_is h are back let_go back.nodes (let low = short in omega (arith, low, end_is)) asked;
       came = came;
       registered = registered;

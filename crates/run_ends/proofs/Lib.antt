@@ -1,8 +1,10 @@
 pub mod Counting
+mod Lacking
 pub mod Turns
 pub mod Sessions
 pub mod Placing
 pub mod Reports
+pub mod Finding
 pub mod Lines
 pub mod Replacements
 pub mod Trims

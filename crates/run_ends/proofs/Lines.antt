@@ -60,6 +60,7 @@ use Rattle.node_course.proofs.Ranks.{node_is_home, rank_counts, rank_low}
 use Rattle.node_course.proofs.Sent.{acted_low}
 use Rattle.node_course.proofs.Stood.{stood_asked}
 use Rattle.node_course.proofs.Together.{played_run}
+use Rattle.node_course.proofs.Versions.{begins_in_phase}
 use Rattle.run_ends.specs.Closing.{HasClosed, WorkerEnd}
 use Rattle.run_ends.specs.Rows.{AreRows, CanTell, CanTellLine, IsOfTable, IsRowOf, Tells, TellsIt, TellsPlace, desk_for, is_behind, played_of}
 use Rattle.run_ends.specs.Ends.{answered_of, desk_in, desks_at}
@@ -613,7 +614,7 @@ module _ (law : Law) (meaning : Meaning) (run : MayRun law) (lines : List NamedL
             (report_low law run.low lines h.home (length workers) h.run looks h.courses h.lines_are h.joined l.node i l clean (record { is = line_at; own = refl; looked = look_at ∙ ap Some t }))
 
         node_came : (a : Admin) (o : Outcome) → Tells None look (asks.Admin a) o → CameOf log (tails h.run) h.run.faults ends (take i played) turn (asks.Admin a) o
-        node_came Extend (out.Extended version start) t = tt
+        node_came Extend (out.Extended version start) t = begins_in_phase law lines h.home (length workers) h.run looks h.courses h.lines_are h.joined l.node i l version start (record { is = line_at; own = refl; looked = look_at ∙ ap Some t })
         node_came Extend (out.Moved version) t = tt
         node_came Extend out.NoSpare t = tt
         node_came Extend (out.Open cause) t = ap failure_of_look t

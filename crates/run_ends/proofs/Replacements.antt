@@ -1,5 +1,5 @@
 -- What the rows tell of replacements of the last loglet, by the chain that is told.
-use Rattle.std.proofs.Common.{◌≡◌, refl, sym, ap, ◌∙◌, subst, inl, inr, ℕ, suc, ◌+◌, ◌<◌, ◌≤◌, ◌≢◌, ◌&&◌, ◌==◌, Bool, true, false, cond, List, [], ◌∷◌, Option, Some, None, map, length, count_by, slice_get, nat_lt, arith, eq-eqb}
+use Rattle.std.proofs.Common.{◌≡◌, refl, sym, ap, ◌∙◌, subst, ◌⊎◌, inl, inr, ℕ, suc, ◌+◌, ◌<◌, ◌≤◌, ◌&&◌, ◌==◌, Bool, true, false, cond, List, [], ◌∷◌, Option, Some, None, map, length, count_by, slice_get, nat_lt, arith, eq-eqb}
 use Rattle.std.specs.Prelude.{is_some}
 use Rattle.std.specs.List.{list_any}
 use Rattle.std.proofs.lemmas.Bool.{and_from, and_parts, or_left, or_right}
@@ -22,7 +22,7 @@ use Rattle.script_text.specs.declared.asks.Asks.TheVariants as asks
 use Rattle.row_text.specs.declared.row.Row.{Row}
 use Rattle.row_text.specs.declared.row.Outcome.{Outcome}
 use Rattle.row_text.specs.declared.row.Outcome.TheVariants as out
-use Rattle.fitting_run.specs.Replacements.{begins_at, version_told}
+use Rattle.fitting_run.specs.Replacements.{begins_at, goes_by_ones, version_told}
 use Rattle.node_lines.specs.declared.desk.Desk.{Desk}
 use Rattle.node_lines.specs.declared.lines.Looked.{Looked}
 use Rattle.node_lines.specs.declared.lines.Looked.TheVariants as looked
@@ -36,7 +36,7 @@ use Rattle.node_course.specs.Joined.{AreJoined}
 use Rattle.node_course.proofs.Lines.{at_get, count-cons}
 use Rattle.node_course.proofs.Moments.{grown_legal}
 use Rattle.node_course.proofs.Parts.{run_legal, run_seen}
-use Rattle.node_course.proofs.Segments.{each_told}
+use Rattle.node_course.proofs.Segments.{all_counted, each_told}
 use Rattle.node_course.proofs.Versions.{stands_now, versions_apart, versions_rise}
 use Rattle.run_ends.specs.Closing.{HasBeside, WorkerEnd}
 use Rattle.run_ends.specs.Rows.{AreRows, Tells, desk_for, played_of}
@@ -95,7 +95,7 @@ StandsSo now cells (Moved version) = version ≤ now.version
 StandsSo now cells NoSpare = last_id now.chain + 1 ≡ cells
 
 abbrev AreApart : Extension → Extension → Type 0
-AreApart (Extended v s) (Extended w r) = v ≢ w
+AreApart (Extended v s) (Extended w r) = ((v < w) × (s ≤ r)) ⊎ ((w < v) × (r ≤ s))
 AreApart x y = Unit {0}
 
 stands_so : (cells who : ℕ) (old new : List Event) (x : Extension) → IsReplacedSo cells who old new x → StandsSo (state_of new).register cells x
@@ -327,8 +327,8 @@ module _ (law : Law) (lines : List NamedLine) (home : ℕ → ℕ) (run : NodeCo
         )
 
     -- what the run has of its lines, the rows tell of the chain that is told
-    pub replacements : (version : ℕ) (chain : Chain) (cells : ℕ) → (state_of run.seen).register.version ≡ version → (state_of run.seen).register.chain ≡ chain → length law.shelf ≡ cells → Replacements played version chain cells
-    replacements version chain cells same is cells_is = record {
+    pub replacements : 1 ≤ length workers → (version : ℕ) (chain : Chain) (cells : ℕ) → (state_of run.seen).register.version ≡ version → (state_of run.seen).register.chain ≡ chain → length law.shelf ≡ cells → Replacements played version chain cells
+    replacements some version chain cells same is cells_is = record {
       each = λ i t at. replaced_from version chain cells (state_of run.seen).register t.row.outcome same is (λ x says.
           subst (λ n. StandsSo (state_of run.seen).register n x) cells_is
           (stands_so (length law.shelf) t.line.node (moment run t.line.phase) run.seen x (stands_now law lines home (length workers) run looks courses lines_are join t.line.node i t.line x (came i t x at says))));
@@ -341,6 +341,7 @@ module _ (law : Law) (lines : List NamedLine) (home : ℕ → ℕ) (run : NodeCo
       apart = λ i j t u at then' low. apart_from t.row.outcome u.row.outcome (λ x y a b. apart_so i j t u x y at then' low a b);
       order = λ i j t u at then' low behind. precedes_from t.row.outcome u.row.outcome (λ x y a b.
           versions_rise law lines home (length workers) run looks courses lines_are join t.line.node u.line.node i j t.line u.line x y (came i t x at a) (came j u y then' b) low behind);
+      counts = subst (λ v. goes_by_ones v chain ≡ true) same (subst (λ c. goes_by_ones (state_of run.seen).register.version c ≡ true) is (all_counted law lines home (length workers) run looks courses join some));
       found = others_line;
     }
       where

@@ -20,13 +20,13 @@ use Rattle.replica_api.specs.Replica.{Meaning}
 use Rattle.turn_scopes.specs.Floors.{FloorIs}
 use Rattle.base_engine.proofs.Showing.{shows_all}
 use Rattle.log_laws.proofs.Membership.{least_some, least_upto, left_says, point_says, position_says, unpack_says}
+use Rattle.script_text.specs.declared.line.Admin.{Admin}
 use Rattle.script_text.specs.declared.line.Admin.TheVariants.{Extend, Alive, Retire, Trim}
 use Rattle.script_text.specs.declared.asks.NamedLine.{NamedLine}
 use Rattle.script_text.specs.declared.asks.Asks.{Asks}
 use Rattle.script_text.specs.declared.asks.Asks.TheVariants as asks
 use Rattle.row_text.specs.declared.row.Outcome.{Outcome}
 use Rattle.row_text.specs.declared.row.Outcome.TheVariants as out
-use Rattle.fitting_run.specs.Answered.{is_open}
 use Rattle.fitting_run.specs.declared.told.Told.{Told}
 use Rattle.fitting_run.specs.Yard.{Shown}
 use Rattle.node_lines.specs.declared.desk.Desk.{Desk}
@@ -37,14 +37,15 @@ use Rattle.node_lines.specs.Workers.{MayRun, appended_by}
 use Rattle.node_lines.proofs.Cleaning.{at_index, clean_none, same_beginning}
 use Rattle.run_ends.specs.Rules.{HasAsked, IsLineOf, may_of}
 use Rattle.run_ends.proofs.Contents.{all-contained}
-use Rattle.run_laws.specs.Ended.{IsKnown, IsToLeave, LineTrimmed, LetsGo, Played, ReportsAbove, SaysFrom, SaysReport, SaysTrim, SomeTurn, TellsUpto, TrimsEnded}
+use Rattle.run_laws.specs.Ended.{IsReported, IsToLeave, LineTrimmed, MayHaveAllowed, MayReport, Played, SaysFrom, SaysReport, SaysTrim, SomeTurn, TellsFrom, TellsUpto, TrimsEnded}
 use Rattle.run_laws.proofs.Members.{among-map, contained-among, contains-among}
 use Rattle.node_course.specs.Script.{AreLines}
 use Rattle.node_course.specs.Played.{Came}
-use Rattle.node_course.specs.Telling.{AskedFor, IsBehind, IsSaidBehind, TellsAtLeast, ToldSo}
-use Rattle.node_course.specs.Joined.{GoesFirst, HadLowest}
+use Rattle.node_course.specs.Telling.{AskedBy, AskedFor, IsBehind, IsSaidBehind, TellsAtLeast, ToldSo}
+use Rattle.node_course.specs.Joined.{GoesFirst, HadLowest, IsNotBehind}
 use Rattle.node_course.proofs.Lines.{at_get}
-use Rattle.node_course.proofs.Trimmed.{appender, had_lowest, trim_stands}
+use Rattle.node_course.proofs.Allowed.{trim_allowed, trim_rises_to}
+use Rattle.node_course.proofs.Trimmed.{appender, had_lowest, tells_less, trim_stands}
 use Rattle.run_ends.specs.Closing.{HasClosed, IsGivenBack, WorkerEnd}
 use Rattle.run_ends.specs.Rows.{AreRows, Tells, desk_for, played_of}
 use Rattle.run_ends.proofs.Turns.{lines_are, turn_is, turn_of}
@@ -72,26 +73,14 @@ trimmed_is None look (asks.Admin Trim) (out.Trimmed n) trim t e = let same : n �
 trimmed_is None look (asks.Admin Trim) (out.Open cause) trim t e = absurd (cc)
 trimmed_is d look a o trim t e = absurd t
 
--- a report that a line came to is what its row tells
-alive_told : (look : Option Looked) (o : Outcome) (n : ℕ) → Tells None look (asks.Admin Alive) o → look ≡ Some (looked.Reported n) → o ≡ out.Alive n
-alive_told look (out.Alive clean) n t is = let same : clean ≡ n = same_report clean n (sym t ∙ is) in ap out.Alive same
-  where
-    same_report : (a b : ℕ) → Some (looked.Reported a) ≡ Some (looked.Reported b) → a ≡ b
-    same_report a b e = cc
-alive_told look (out.Open cause) n t is = absurd (apart (sym t ∙ is))
-  where
-    apart : Some (looked.Failed cause) ≡ Some (looked.Reported n) → ⊥
-    apart e = cc
-alive_told look o n t is = absurd t
+same_some : {A : Type 0} (x y : A) → Some x ≡ Some y → x ≡ y
+same_some x y e = cc
 
--- where it failed the row is open
-open_told : (look : Option Looked) (o : Outcome) (c : _) → Tells None look (asks.Admin Alive) o → look ≡ Some (looked.Failed c) → is_open o ≡ true
-open_told look (out.Alive clean) c t is = absurd (apart (sym t ∙ is))
-  where
-    apart : Some (looked.Reported clean) ≡ Some (looked.Failed c) → ⊥
-    apart e = cc
-open_told look (out.Open cause) c t is = refl
-open_told look o c t is = absurd t
+-- a row whose line came to a report of so much, or failed, tells so much, or is open
+may_tell : (look : Looked) (o : Outcome) (n : ℕ) → Tells None (Some look) (asks.Admin Alive) o → TellsAtLeast n look → TellsFrom n (asks.Admin Alive) o
+may_tell look (out.Alive clean) n t up = subst (TellsAtLeast n) (same_some look (looked.Reported clean) t) up
+may_tell look (out.Open cause) n t up = tt
+may_tell look o n t up = absurd t
 
 tells_upto : (trim : ℕ) (o : Outcome) → ((n : ℕ) → o ≡ out.Alive n → n ≤ trim) → (o ≡ out.Retired → ⊥) → TellsUpto trim o
 tells_upto trim (out.Alive clean) low stays = low clean refl
@@ -106,9 +95,6 @@ tells_upto trim (out.Open cause) low stays = tt
 
 contains-mapped : (ps : List Placed) (p : Placed) → Contains ps p → Contains (map (λ q. q.content) ps) p.content
 contains-mapped ps p h = contains-among (map (λ (q : Placed). q.content) ps) p.content (among-map (λ (q : Placed). q.content) ps p (contained-among ps p h))
-
-same_some : {A : Type 0} (x y : A) → Some x ≡ Some y → x ≡ y
-same_some x y e = cc
 
 some_in : (l : List Entry) (i : ℕ) → i < length l → (e : Entry) × (slice_get l i ≡ Some e)
 some_in [] i low = absurd (omega (arith, low))
@@ -265,6 +251,33 @@ module _ (law : Law) (meaning : Meaning) (run : MayRun law) (lines : List NamedL
             inr (record { position = position_of says node; above = above; says = said_shown q.0 (position_of says node) (content.Alive node (position_of says node)) q.1 q.2 (λ b. b) above }))
             (position_says says node)
 
+    -- some node did
+    trim_some : o.chain.trim ≢ 0 → (node : ℕ) × AskedFor lines looks node Alive (TellsAtLeast o.chain.trim) × SaysReport o.chain yard.cells o.chain.trim node
+    trim_some some =
+        let m = floor_is.only f.log o.chain.trim f.free in
+        let free = m.least in
+        ⊎_elim by (λ (none : least_position nodes says ≤ 0). let zero_is : o.chain.trim ≡ 0 = omega (arith, free, none) in absurd (some zero_is)) (cases_lt 0 (least_position nodes says))
+      where
+        by : 0 < least_position nodes says → (node : ℕ) × AskedFor lines looks node Alive (TellsAtLeast o.chain.trim) × SaysReport o.chain yard.cells o.chain.trim node
+        by low =
+            let first = least_some nodes says low in
+            let m = floor_is.only f.log o.chain.trim f.free in
+            let free = m.least in
+            let is = first.is in
+            let above : o.chain.trim ≤ position_of says first.node = omega (arith, free, is) in
+            ⊎_elim
+            (λ (none : position_of says first.node ≡ 0). let zero_is : o.chain.trim ≡ 0 = omega (arith, above, none) in absurd (some zero_is))
+            (λ (q : (p : Placed) × Contains says p × (p.content ≡ content.Alive first.node (position_of says first.node))).
+            let e = unpack_says f.log q.0 q.1 in
+            let by = told_now e.0 e.2 (f.each e.0 e.1) e.3 in
+            let told = subst (ToldSo lines looks by.0 journal) (e.4 ∙ q.2) by.1 in
+            let asked : AskedFor lines looks first.node Alive (TellsAtLeast (position_of says first.node)) = subst (λ who. AskedFor lines looks who Alive (TellsAtLeast (position_of says first.node))) (sym told.0) told.2 in (
+              first.node,
+              record { at = asked.at; line = asked.line; look = asked.look; came = asked.came; asks = asked.asks; so = tells_less o.chain.trim (position_of says first.node) asked.look above asked.so },
+              record { position = position_of says first.node; above = above; says = said_shown q.0 (position_of says first.node) (content.Alive first.node (position_of says first.node)) q.1 q.2 (λ b. b) above },
+            ))
+            (position_says says first.node)
+
     trim_clean : IsCleanPoint journal o.chain.trim
     trim_clean =
         let m = floor_is.only f.log o.chain.trim f.free in
@@ -308,15 +321,32 @@ module _ (law : Law) (meaning : Meaning) (run : MayRun law) (lines : List NamedL
       let there : Tells None k.look (asks.Admin a) k.row.outcome = subst (λ x. Tells (desk_for workers k.line.node x) k.look x k.row.outcome) same_asks tells in
       subst (λ (x : Outcome). Tells None (Some look) (asks.Admin a) x) (sym (ap (λ (y : Played). y.row.outcome) k.is)) (subst (λ l. Tells None l (asks.Admin a) k.row.outcome) same_look there)
 
+  turn_for : (node : ℕ) (what : _) (P : Looked → Type 0) → AskedFor lines looks node what P → (at : ℕ) × (t : Played) × (slice_get played at ≡ Some t) × (t.line.node ≡ node) × (t.line.asks ≡ asks.Admin what)
+  turn_for node what P a =
+      let t = turn_at a.at a.line a.came.is in
+      (a.at, t.0, t.1, ap (λ (l : NamedLine). l.node) t.2 ∙ a.came.own, ap (λ (l : NamedLine). l.asks) t.2 ∙ a.asks)
+
+  -- the row of a line by which a node reported so much tells it, or is open
+  may_turn : (n node : ℕ) → AskedFor lines looks node Alive (TellsAtLeast n) → SomeTurn played (MayReport node n)
+  unfolding turn_for
+  may_turn n node a =
+      let t = turn_for node Alive (TellsAtLeast n) a in
+      let tells = may_tell a.look t.1.row.outcome n (tells_at t.0 t.1 Alive a.look t.2 t.4 a.came.looked) a.so in
+      record { at = t.0; turn = t.1; is = t.2; so = record { node_is = t.3; tells = subst (λ asked. TellsFrom n asked t.1.row.outcome) (sym t.4) tells } }
+
   -- Each trim
+
+  -- a row that tells one is of a line that came to it
+  came_of : (j : ℕ) (t : Played) (trim : ℕ) → slice_get played j ≡ Some t → t.row.outcome ≡ out.Trimmed trim → Came lines looks t.line.node j t.line (looked.Trimmed trim)
+  came_of j t trim at is =
+      let k = turn_is lines o.rows looks j t at in
+      let row = are.each j k.line k.look k.row k.line_at k.look_at k.row_at in
+      let so = trimmed_is (desk_for workers k.line.node k.line.asks) k.look k.line.asks k.row.outcome trim row.tells (sym (ap (λ (y : Played). y.row.outcome) k.is) ∙ is) in
+      record { is = k.line_at ∙ ap Some (sym (ap (λ (y : Played). y.line) k.is)); own = refl; looked = k.look_at ∙ ap Some so.1 }
 
   module _ (j : ℕ) (t : Played) (trim : ℕ) (at : slice_get played j ≡ Some t) (is : t.row.outcome ≡ out.Trimmed trim) where
     came : Came lines looks t.line.node j t.line (looked.Trimmed trim)
-    came =
-        let k = turn_is lines o.rows looks j t at in
-        let row = are.each j k.line k.look k.row k.line_at k.look_at k.row_at in
-        let so = trimmed_is (desk_for workers k.line.node k.line.asks) k.look k.line.asks k.row.outcome trim row.tells (sym (ap (λ (y : Played). y.row.outcome) k.is) ∙ is) in
-        record { is = k.line_at ∙ ap Some (sym (ap (λ (y : Played). y.line) k.is)); own = refl; looked = k.look_at ∙ ap Some so.1 }
+    came = came_of j t trim at is
 
     lowest : HadLowest lines looks (length workers) j t.line trim
     lowest = had_lowest law lines h.home (length workers) h.run looks h.courses h.lines_are h.joined t.line.node j t.line trim came
@@ -337,6 +367,42 @@ module _ (law : Law) (meaning : Meaning) (run : MayRun law) (lines : List NamedL
         let so = retired_is (desk_for workers k.line.node k.line.asks) k.look k.line.asks k.row.outcome row.tells (sym outcome_same ∙ told) in
         lowest.each i u.line looked.Left (record { is = line_at; own = node; looked = k.look_at ∙ ap Some so.1 }) goes)
 
+    -- no trim that it is behind went further
+    not_above : (i : ℕ) (u : Played) (less : ℕ) → slice_get played i ≡ Some u → i < j → (u.line.phase < t.line.phase) ⊎ (u.line.node ≡ t.line.node) → u.row.outcome ≡ out.Trimmed less → less ≤ trim
+    not_above i u less here early behind told =
+        let goes : GoesFirst i u.line j t.line = ⊎_elim (λ (p : u.line.phase < t.line.phase). inl p) (λ (n : u.line.node ≡ t.line.node). inr (n, early)) behind in
+        trim_rises_to law run lines h.home (length workers) h.run looks h.courses h.lines_are h.joined floor_is t.line.node j t.line trim came u.line.node i u.line less (came_of i u less here told) goes
+
+    -- each node may have allowed it by then
+    module _ (node : ℕ) where
+      -- the row of a line that asked it to report, or to leave, and isn't behind this one
+      allowed_by : (what : Admin) (P : Looked → Type 0) → (a : AskedBy lines looks node (IsNotBehind j t.line) what P)
+          → ((u : Played) → slice_get played a.by.at ≡ Some u → u.line.asks ≡ asks.Admin what → (u.line.asks ≡ asks.Admin Retire) ⊎ TellsFrom trim u.line.asks u.row.outcome) → MayHaveAllowed played j t trim node
+      allowed_by what P a how =
+          let u = turn_at a.by.at a.by.line a.by.came.is in
+          let node_same : u.0.line.node ≡ a.by.line.node = ap (λ (l : NamedLine). l.node) u.2 in
+          let phase_same : u.0.line.phase ≡ a.by.line.phase = ap (λ (l : NamedLine). l.phase) u.2 in
+          record {
+            at = a.by.at;
+            turn = u.0;
+            is = u.1;
+            node_is = node_same ∙ a.by.came.own;
+            how = how u.0 u.1 (ap (λ (l : NamedLine). l.asks) u.2 ∙ a.by.asks);
+            phase = let low = a.these.0 in omega (arith, low, phase_same);
+            own = λ same. a.these.1 (sym node_same ∙ same);
+          }
+
+      may_have : 1 ≤ node → node ≤ length workers → (trim ≡ 0) ⊎ MayHaveAllowed played j t trim node
+      may_have low high = ⊎_elim
+          (λ (none : trim ≡ 0). inl none)
+          (λ k. ⊎_elim
+          (λ (a : AskedBy lines looks node (IsNotBehind j t.line) Retire (λ look. Unit {0})). inr (allowed_by Retire (λ look. Unit {0}) a (λ u here asked. inl asked)))
+          (λ (a : AskedBy lines looks node (IsNotBehind j t.line) Alive (TellsAtLeast trim)).
+          inr (allowed_by Alive (TellsAtLeast trim) a (λ u here asked.
+          inr (subst (λ x. TellsFrom trim x u.row.outcome) (sym asked) (may_tell a.by.look u.row.outcome trim (tells_at a.by.at u Alive a.by.look here asked a.by.came.looked) a.by.so)))))
+          k)
+          (trim_allowed law run lines h.home (length workers) h.run looks h.courses h.lines_are h.joined floor_is t.line.node j t.line trim came node low high)
+
     pub trim_of_row : length yard.disks ≡ length workers → LineTrimmed played (length yard.disks) o.chain.trim j t trim
     trim_of_row nodes = record {
       upto = let up = (trim_stands law lines h.home (length workers) h.run looks h.courses h.lines_are h.joined t.line.node j t.line trim came).0 in let same = trim_same ∙ ap (λ (es : List Event). trim_of (state_of es)) (sym h.seen_is) in omega (arith, up, same);
@@ -344,6 +410,8 @@ module _ (law : Law) (meaning : Meaning) (run : MayRun law) (lines : List NamedL
       least = lowest.least;
       most = let most = lowest.most in omega (arith, most, nodes);
       told = below;
+      rises = not_above;
+      allowed = λ node low high. may_have node low (omega (arith, high, nodes));
     }
 
   -- The end
@@ -373,50 +441,24 @@ module _ (law : Law) (meaning : Meaning) (run : MayRun law) (lines : List NamedL
             asked e.0 e.2 (trim_point (unpack_all 0 f.log)) (f.each e.0 e.1) e.3 (e.4 ∙ p.2))
             (point_says (unpack_all 0 f.log))
 
-    turn_for : (node : ℕ) (what : _) (P : Looked → Type 0) → AskedFor lines looks node what P → (at : ℕ) × (t : Played) × (slice_get played at ≡ Some t) × (t.line.node ≡ node) × (t.line.asks ≡ asks.Admin what)
-    turn_for node what P a =
-        let t = turn_at a.at a.line a.came.is in
-        (a.at, t.0, t.1, ap (λ (l : NamedLine). l.node) t.2 ∙ a.came.own, ap (λ (l : NamedLine). l.asks) t.2 ∙ a.asks)
+    leaves : (node : ℕ) → AskedFor lines looks node Retire (λ look. Unit {0}) → SomeTurn played (IsToLeave node)
+    leaves node a = let t = turn_for node Retire (λ look. Unit {0}) a in record { at = t.0; turn = t.1; is = t.2; so = record { node_is = t.3; asks = t.4 } }
 
-    lets_go : o.chain.trim ≢ 0 → (node : ℕ) → 1 ≤ node → node ≤ length workers → SomeTurn played (LetsGo node)
-    lets_go some node low high = ⊎_elim
+    kept : Frees law.floor journal o.chain.trim → (node : ℕ) → 1 ≤ node → node ≤ length workers → o.chain.trim ≢ 0 → SomeTurn played (IsToLeave node) ⊎ IsReported played o.chain yard.cells o.chain.trim node
+    kept f node low high some = ⊎_elim
+        (λ (a : AskedFor lines looks node Retire (λ look. Unit {0})). inl (leaves node a))
+        (λ (says : SaysReport o.chain yard.cells o.chain.trim node). ⊎_elim
         (λ (none : trim_of (state_of h.run.seen) ≡ 0). absurd (some (sym now_trim ∙ none)))
         (λ k. ⊎_elim
-        (λ (leaves : AskedFor lines looks node Retire (λ look. Unit {0})). let t = turn_for node Retire (λ look. Unit {0}) leaves in record { at = t.0; turn = t.1; is = t.2; so = record { node_is = t.3; kind = inr t.4 } })
-        (λ (reports : AskedFor lines looks node Alive (TellsAtLeast (trim_of (state_of h.run.seen)))).
-        let t = turn_for node Alive (TellsAtLeast (trim_of (state_of h.run.seen))) reports in
-        record { at = t.0; turn = t.1; is = t.2; so = record { node_is = t.3; kind = inl t.4 } })
+        (λ (a : AskedFor lines looks node Retire (λ look. Unit {0})). inl (leaves node a))
+        (λ (a : AskedFor lines looks node Alive (TellsAtLeast (trim_of (state_of h.run.seen)))).
+        inr (record { line = may_turn o.chain.trim node (subst (λ n. AskedFor lines looks node Alive (TellsAtLeast n)) now_trim a); says = says }))
         k)
-        (told node low high)
-
-    reached : (node : ℕ) → 1 ≤ node → node ≤ length workers → IsKnown played node → (o.chain.trim ≡ 0) ⊎ SomeTurn played (ReportsAbove node o.chain.trim)
-    unfolding turn_for
-    reached node low high known = ⊎_elim (λ (none : trim_of (state_of h.run.seen) ≡ 0). inl (sym now_trim ∙ none)) (λ k. ⊎_elim left alive k) (told node low high)
-      where
-        left : AskedFor lines looks node Retire (λ look. Unit {0}) → (o.chain.trim ≡ 0) ⊎ SomeTurn played (ReportsAbove node o.chain.trim)
-        left a = let t = turn_for node Retire (λ look. Unit {0}) a in absurd (known.stays t.0 t.1 t.2 t.3 t.4)
-
-        alive : AskedFor lines looks node Alive (TellsAtLeast (trim_of (state_of h.run.seen))) → (o.chain.trim ≡ 0) ⊎ SomeTurn played (ReportsAbove node o.chain.trim)
-        alive a =
-            let t = turn_for node Alive (TellsAtLeast (trim_of (state_of h.run.seen))) a in
-            by t.0 t.1 t.2 t.3 t.4 a.look (tells_at t.0 t.1 Alive a.look t.2 t.4 a.came.looked) a.so
-          where
-            by : (at : ℕ) (t : Played) → slice_get played at ≡ Some t → t.line.node ≡ node → t.line.asks ≡ asks.Admin Alive → (look : Looked) → Tells None (Some look) (asks.Admin Alive) t.row.outcome → TellsAtLeast (trim_of (state_of h.run.seen)) look
-                → (o.chain.trim ≡ 0) ⊎ SomeTurn played (ReportsAbove node o.chain.trim)
-            by at t is node_is asked (looked.Reported n) tells up =
-                inr (record { at = at; turn = t; is = is; so = record { node_is = node_is; clean = n; is = alive_told (Some (looked.Reported n)) t.row.outcome n tells refl; above = let same = now_trim in omega (arith, up, same) } })
-            by at t is node_is asked (looked.Failed c) tells up =
-                let open_row = open_told (Some (looked.Failed c)) t.row.outcome c tells refl in
-                let closed = known.closed at t is node_is asked in
-                absurd (cc)
-            by at t is node_is asked look tells up = absurd up
-
-    kept : Frees law.floor journal o.chain.trim → (node : ℕ) → 1 ≤ node → node ≤ length workers → o.chain.trim ≢ 0 → SomeTurn played (IsToLeave node) ⊎ SaysReport o.chain yard.cells o.chain.trim node
-    unfolding turn_for
-    kept f node low high some = ⊎_elim
-        (λ (leaves : AskedFor lines looks node Retire (λ look. Unit {0})). let t = turn_for node Retire (λ look. Unit {0}) leaves in inl (record { at = t.0; turn = t.1; is = t.2; so = record { node_is = t.3; asks = t.4 } }))
-        (λ (says : SaysReport o.chain yard.cells o.chain.trim node). inr says)
+        (told node low high))
         (trim_kept f node low high some)
+
+    some_reported : Frees law.floor journal o.chain.trim → o.chain.trim ≢ 0 → (node : ℕ) × IsReported played o.chain yard.cells o.chain.trim node
+    some_reported f some = let r = trim_some f some in (r.0, record { line = may_turn o.chain.trim r.0 r.1; says = r.2 })
 
     pub trims_ended : length yard.disks ≡ length workers → o.chain.trim ≤ o.end
         → ((j : ℕ) (t : Played) (trim : ℕ) → slice_get played j ≡ Some t → t.row.outcome ≡ out.Trimmed trim → o.chain.trim ≡ 0 → SaysTrim o.chain yard.cells 0)
@@ -424,9 +466,9 @@ module _ (law : Law) (meaning : Meaning) (run : MayRun law) (lines : List NamedL
     trims_ended nodes short stands = record {
       each = λ j t trim at is. trim_of_row j t trim at is nodes;
       within = short;
-      asked = λ some. record { trims = trim_line some; each = λ node low high. lets_go some node low (omega (arith, high, nodes)) };
-      reached = λ node low high known. reached node low (omega (arith, high, nodes)) known;
       stand = stands;
       rests = λ some. ⊎_elim (λ (none : o.chain.trim ≡ 0). absurd (some none)) (λ (f : Frees law.floor journal o.chain.trim). trim_rests f some) freed;
+      asked = trim_line;
+      some = λ some. ⊎_elim (λ (none : o.chain.trim ≡ 0). absurd (some none)) (λ (f : Frees law.floor journal o.chain.trim). some_reported f some) freed;
       kept = λ node low high some. ⊎_elim (λ (none : o.chain.trim ≡ 0). absurd (some none)) (λ (f : Frees law.floor journal o.chain.trim). kept f node low (omega (arith, high, nodes)) some) freed;
     }

@@ -1,33 +1,39 @@
 -- Each command acts once: the placed rows are what the log lets act, below the trim and from it on.
-use Rattle.std.proofs.Common.{◌≡◌, refl, sym, ap, ◌∙◌, subst, inl, inr, ℕ, ◌+◌, ◌<◌, ◌≤◌, Bool, true, false, cond, List, [], ◌∷◌, ◌++◌, arith, length, map, take, drop, nat_lt, nat_le, ◌==◌, take-append-drop, length-take-le, ltb-true, ltb-false, le-leb, eq-eqb, ne_eqb, append-nil}
-use Rattle.std.specs.List.{AllByRecursion, list_all}
+use Rattle.std.proofs.Common.{◌≡◌, refl, sym, ap, ◌∙◌, subst, inl, inr, ℕ, ◌+◌, ◌-◌, ◌<◌, ◌≤◌, Bool, true, false, cond, List, [], ◌∷◌, ◌++◌, arith, length, map, take, drop, nat_lt, nat_le, ◌==◌, take-append-drop, length-take-le, ltb-true, ltb-false, lt-ltb, le-leb, eqb-true, eq-eqb, ne_eqb, append-nil, zero, suc, Option, Some, None, filter_map}
+use Rattle.std.specs.List.{AllByRecursion, cons_option, list_all}
 use Rattle.std.specs.FinMap as finmap
 use Rattle.std.proofs.lemmas.Bool.{and_from, and_left, and_right}
 use Rattle.std.proofs.lemmas.Bool.Decides.{nat_tests}
 use Rattle.std.proofs.lemmas.List.{append_cancel_left}
 use Rattle.std.proofs.lemmas.List.Elements.{filter-append}
+use Rattle.delos_types.specs.declared.chain.Chain.{Chain}
 use Rattle.delos_types.specs.declared.entry.Entry.{Entry}
+use Rattle.loglet_api.specs.View.{LogletView}
+use Rattle.script_text.specs.declared.asks.NamedLine.{NamedLine}
 use Rattle.table_core.specs.Table.{TableMap}
 use Rattle.engine_api.specs.declared.act.Act.{Act}
 use Rattle.engine_api.specs.Acted.{Asked, act_on, replied, table_after, asked_in, acted_log}
 use Rattle.engine_api.specs.Order.{acted_after, is_clean}
 use Rattle.engine_api.proofs.Appends.{acted_log-append}
 use Rattle.log_laws.specs.State.{acts_in}
-use Rattle.fabric_core.specs.Log.{virtual_log}
+use Rattle.fabric_core.specs.Log.{numbers, virtual_log, virtual_log_at, virtual_tail}
 use Rattle.fitting_run.specs.declared.told.Told.{Told}
 use Rattle.fitting_run.specs.Yard.{Shown}
 use Rattle.fitting_run.specs.Tests.{◌⇒◌, each_pair}
-use Rattle.fitting_run.specs.Acts.{ActsOnce, acts_below, acts_from, asked, next_rank, placed_acts, stand_apart}
+use Rattle.fitting_run.specs.declared.answered.Answered.{Answered}
+use Rattle.fitting_run.specs.Acts.{ActsOnce, HoldsLines, acts_below, placed_acts}
 use Rattle.fitting_run.specs.Fits.{told_of}
+use Rattle.fitting_run.specs.Turns.{ActsAreShown, acts_from, asked, next_rank, rises_in_rank, stand_apart}
 use Rattle.log_laws.specs.Order.{EachPair, ActsBefore}
-use Rattle.log_laws.proofs.Pairs.{all-imply, filter-all, filter-none}
+use Rattle.log_laws.proofs.Pairs.{all-append, all-imply, filter-all, filter-none}
 use Rattle.log_laws.proofs.Acting.{in_order, front}
 use Rattle.run_laws.specs.Ended.{Played, RunEnded}
 use Rattle.run_laws.proofs.Fronts.{front-acts}
-use Rattle.run_laws.proofs.Ranks.{next-is_gap, first-ranks}
+use Rattle.run_laws.proofs.Ranks.{RanksRise, next-is_gap, first-ranks, ranks-rise}
 use Rattle.run_laws.proofs.Splitting.{acted-from_clean}
 use Rattle.run_laws.proofs.Telling.{tell, told-is}
 use Rattle.run_laws.proofs.Placing.{placed-are_acts}
+use Rattle.run_laws.proofs.Tests.{implies-from}
 
 -- Two sessions act at different places
 
@@ -137,17 +143,82 @@ trimmed-at log trim short clean =
       from = from ∙ ap (λ l. acted_log (table_after finmap.empty l) (next_rank l) trim rest) (sym below);
     }
 
-pub acts-once : (played : List Played) (o : Told) (yard : Shown) → RunEnded played o yard → ActsOnce (told_of (map (λ t. t.line) played) o) o.chain yard.cells o.end
-acts-once played o yard e =
-    let told : told_of (map (λ (t : Played). t.line) played) o ≡ map tell played = told-is played o e.rows in
-    let acts : placed_acts (told_of (map (λ (t : Played). t.line) played) o) ≡ acts_in e.log = ap placed_acts told ∙ placed-are_acts played o yard e in
-    let cut = trimmed-at e.log o.chain.trim e.stands.below e.stands.clean in
-    let shown : virtual_log o.chain yard.cells o.chain.trim o.end ≡ drop o.chain.trim e.log = ap (virtual_log o.chain yard.cells o.chain.trim) e.end ∙ e.stands.entries in
+-- Ranks
+
+rises : (a b : Act) → RanksRise a b → rises_in_rank a b ≡ true
+rises a b h = implies-from (a.session == b.session) (nat_lt a.rank b.rank) (λ same. lt-ltb a.rank b.rank (h (eqb-true a.session b.session same)))
+
+each-rises : (acts : List Act) → EachPair RanksRise acts → each_pair rises_in_rank acts ≡ true
+each-rises [] h = refl
+each-rises (a ∷ acts) h = and_from _ _ (from_one acts h.0) (each-rises acts h.1)
+  where
+    from_one : (bs : List Act) → AllByRecursion (RanksRise a) bs → list_all (rises_in_rank a) bs ≡ true
+    from_one [] k = refl
+    from_one (b ∷ bs) k = and_from _ _ (rises a b k.0) (from_one bs k.1)
+
+-- The one log
+
+all-drop : {A : Type 0} (P : A → Type 0) (n : ℕ) (xs : List A) → AllByRecursion P xs → AllByRecursion P (drop n xs)
+all-drop P zero xs h = h
+all-drop P (suc n) [] h = tt
+all-drop P (suc n) (x ∷ xs) h = all-drop P n xs h.1
+
+all-left : {A : Type 0} (P : A → Type 0) (xs ys : List A) → AllByRecursion P (xs ++ ys) → AllByRecursion P xs
+all-left P [] ys h = tt
+all-left P (x ∷ xs) ys h = (h.0, all-left P xs ys h.1)
+
+all-right : {A : Type 0} (P : A → Type 0) (xs ys : List A) → AllByRecursion P (xs ++ ys) → AllByRecursion P ys
+all-right P [] ys h = h
+all-right P (x ∷ xs) ys h = all-right P xs ys h.1
+
+-- what is read up to a position, and from it on
+read-split : (f : ℕ → Option Entry) (a b k n m : ℕ) → k ≡ n + m → b ≡ a + n → filter_map f (numbers a k) ≡ filter_map f (numbers a n) ++ filter_map f (numbers b m)
+read-split f a b k zero m size at =
+    let same_size : k ≡ m = omega (arith, size) in
+    let same : a ≡ b = omega (arith, at) in
+    ap (λ i. filter_map f (numbers a i)) same_size ∙ ap (λ c. filter_map f (numbers c m)) same
+read-split f a b zero (suc n) m size at = absurd (omega (arith, size))
+read-split f a b (suc k) (suc n) m size at = by (f a) (read-split f (a + 1) b k n m (omega (arith, size)) (omega (arith, at)))
+  where
+    by : (o : Option Entry) → filter_map f (numbers (a + 1) k) ≡ filter_map f (numbers (a + 1) n) ++ filter_map f (numbers b m)
+        → cons_option o (filter_map f (numbers (a + 1) k)) ≡ cons_option o (filter_map f (numbers (a + 1) n)) ++ filter_map f (numbers b m)
+    by None e = e
+    by (Some x) e = ap (λ l. x ∷ l) e
+
+split-log : (chain : Chain) (cells : List LogletView) (a b c : ℕ) → a ≤ b → b ≤ c → virtual_log chain cells a c ≡ virtual_log chain cells a b ++ virtual_log chain cells b c
+split-log chain cells a b c low high = read-split (virtual_log_at chain cells) a b (c - a) (b - a) (c - b) (omega (arith, low, high)) (omega (arith, low))
+
+-- what a log lets act is told by the part of it that isn't trimmed
+pub shown-acts : (lines : List NamedLine) (told : List Answered) (chain : Chain) (cells : List LogletView) (end : ℕ) → ActsOnce lines told chain cells end → chain.trim ≤ end → ActsAreShown lines told chain cells end
+shown-acts lines told chain cells end h low =
+    let size = h.size in
+    let cut = trimmed-at h.log chain.trim (omega (arith, low, size)) h.clean in
+    let acts : placed_acts told ≡ acts_in h.log = h.acts in
+    let shown : virtual_log chain cells chain.trim end ≡ drop chain.trim h.log = h.shown in
+    let within : end ≤ virtual_tail chain cells = h.within in
+    let behind = virtual_log chain cells end (virtual_tail chain cells) in
     record {
-      whole = e.stands.whole;
-      within = rw e.end (le-leb _ _ e.stands.within);
-      first_ranks = rw acts (first-ranks e.log);
-      apart = rw acts (each-apart (acts_in e.log) (in_order e.log));
+      whole = h.whole;
+      within = le-leb _ _ h.within;
+      holds = rw (split-log chain cells chain.trim end (virtual_tail chain cells) low within, shown)
+          (all-append (HoldsLines lines) (drop chain.trim h.log) behind (all-drop (HoldsLines lines) chain.trim h.log (all-left (HoldsLines lines) h.log behind h.holds)) (all-right (HoldsLines lines) h.log behind h.holds));
+      first_ranks = rw acts (first-ranks h.log);
+      ranks_rise = rw acts (each-rises (acts_in h.log) (ranks-rise h.log));
+      apart = rw acts (each-apart (acts_in h.log) (in_order h.log));
       trimmed = rw acts cut.below;
       shown = rw (acts, shown) cut.from;
+    }
+
+pub acts-once : (played : List Played) (o : Told) (yard : Shown) → RunEnded played o yard → ActsOnce (map (λ t. t.line) played) (told_of (map (λ t. t.line) played) o) o.chain yard.cells o.end
+acts-once played o yard e =
+    let told : told_of (map (λ (t : Played). t.line) played) o ≡ map tell played = told-is played o e.rows in
+    record {
+      log = e.log;
+      size = sym e.end;
+      holds = rw e.end e.asked;
+      acts = ap placed_acts told ∙ placed-are_acts played o yard e;
+      shown = ap (virtual_log o.chain yard.cells o.chain.trim) e.end ∙ e.stands.entries;
+      clean = e.stands.clean;
+      whole = e.stands.whole;
+      within = rw e.end e.stands.within;
     }

@@ -1,6 +1,6 @@
 -- Where no fault was counted, none came, so no row is open or late.
-use Rattle.std.proofs.Common.{◌≡◌, refl, ap, ◌∙◌, inl, inr, ℕ, zero, suc, ◌-◌, ◌≤◌, Bool, true, nat_le, List, [], ◌∷◌, count_by, sum_by, slice_get, get_or, Some, arith, eq-eqb}
-use Rattle.std.proofs.lemmas.Bool.{and_parts, leb-true, false_from_ne_true, not_from_false}
+use Rattle.std.proofs.Common.{◌≡◌, refl, ap, ◌∙◌, inl, inr, ℕ, zero, suc, ◌-◌, ◌≤◌, Bool, true, false, nat_le, ◌&&◌, List, [], ◌∷◌, count_by, sum_by, slice_get, get_or, Option, Some, None, arith, eq-eqb}
+use Rattle.std.proofs.lemmas.Bool.{and_parts, both_ways, leb-true, false_from_ne_true, not_from_false}
 use Rattle.std.proofs.lemmas.List.Sums.{sum_by-cons}
 use Rattle.delos_types.specs.declared.cause.Cause.{Cause}
 use Rattle.delos_types.specs.declared.cause.Cause.TheVariants as cause
@@ -11,7 +11,8 @@ use Rattle.row_text.specs.declared.row.Outcome.TheVariants as out
 use Rattle.fitting_run.specs.declared.told.Told.{Told}
 use Rattle.fitting_run.specs.Answered.{cause_of, is_late}
 use Rattle.fitting_run.specs.Calm.{IsCalm, all_answered, is_answered}
-use Rattle.fitting_run.specs.Faults.{disk_faults, faults_of, finds_full, stands}
+use Rattle.fitting_run.specs.Faults.{disk_faults, faults_of, finds_full, lacked, stands}
+use Rattle.fitting_run.specs.Tests.{some_is}
 use Rattle.fitting_run.specs.Yard.{Shown}
 use Rattle.run_laws.specs.Ended.{CameTo, Fault, PaidStands, Played, RunEnded, counted, paid_by, pays, session_in}
 use Rattle.run_laws.proofs.Behind.{after-each}
@@ -39,6 +40,12 @@ some-counted p (y ∷ ys) x m e = elim m [
   | inr later ↦ let more = some-counted p ys x later e in omega (arith, sum_by-cons (λ z. one_if (p z)) y ys, more)
 ]
 
+-- a loglet that lacked servers counted a fault
+lacked-fault : (unreached : ℕ) (o : Option LogletView) → some_is o (lacked unreached) ≡ true → 1 ≤ faults_of o
+lacked-fault unreached None e = absurd (both_ways false refl e)
+lacked-fault unreached (Some v) e =
+    leb-true 1 v.faults (and_parts (nat_le 1 unreached && nat_le v.quorum unreached && nat_le unreached v.servers && nat_le 1 v.lacks) (nat_le 1 v.faults) e).1
+
 -- a row that is neither open nor late is answered
 answered-from : (o : Outcome) → ((k : Cause) → cause_of o ≡ Some k → ⊥) → (is_late o ≡ true → ⊥) → is_answered o ≡ true
 answered-from (out.Placed place reply late) shut timely = not_from_false late (false_from_ne_true late timely)
@@ -49,7 +56,7 @@ module _ (played : List Played) (o : Told) (yard : Shown) (e : RunEnded played o
   -- no cause stands, but that of a full loglet, and no full loglet refused anything
   no-cause : (node : ℕ) (k : Cause) → stands yard node k ≡ true → ((id : ℕ) → k ≡ cause.Full id → 1 ≤ counted (finds_full id) played e.faults) → ⊥
   no-cause node (cause.NoQuorum id unreached) h full =
-      let one = leb-true 1 (faults_of (slice_get yard.cells id)) (and_parts _ (nat_le 1 (faults_of (slice_get yard.cells id))) h).1 in
+      let one = lacked-fault unreached (slice_get yard.cells id) h in
       absurd (omega (arith, calm, one, cell-faults yard.cells id))
   no-cause node (cause.Full id) h full =
       let one = full id refl in

@@ -1,6 +1,6 @@
 -- The clean position of a log: the longest of its fronts that is clean.
-use Rattle.std.proofs.Common.{◌≡◌, refl, sym, ap, ◌∙◌, inl, inr, ℕ, zero, suc, ◌+◌, ◌<◌, ◌≤◌, Bool, true, false, cond, List, ◌∷◌, length, arith}
-use Rattle.std.specs.Prelude.{filter}
+use Rattle.std.proofs.Common.{◌≡◌, refl, sym, ap, ◌∙◌, inl, inr, ◌⊎◌, ℕ, zero, suc, ◌+◌, ◌<◌, ◌≤◌, Bool, true, false, cond, List, ◌∷◌, length, arith}
+use Rattle.std.specs.Prelude.{filter, max}
 use Rattle.std.proofs.lemmas.Bool.{both_ways, cases_lt}
 use Rattle.delos_types.specs.declared.entry.Entry.{Entry}
 use Rattle.engine_api.specs.Members.{greatest, clean_at, clean_position}
@@ -37,3 +37,31 @@ clean-within log = greatest-upto (clean_at log) 0 (length log + 1) (length log) 
 -- a front that is clean is no longer
 pub clean-most : (log : List Entry) (n : ℕ) → n ≤ length log → clean_at log n ≡ true → n ≤ clean_position log
 clean-most log n short clean = greatest-from (clean_at log) 0 (length log + 1) n (omega arith) (omega (arith, short)) clean
+
+-- the greatest that is picked is picked, unless it is 0
+greatest-picked : (p : ℕ → Bool) (a n : ℕ) → (greatest (filter p (numbers a n)) ≡ 0) ⊎ (p (greatest (filter p (numbers a n))) ≡ true)
+greatest-picked p a zero = inl refl
+greatest-picked p a (suc n) = step (p a) refl (greatest-picked p (a + 1) n)
+  where
+    step : (b : Bool) → p a ≡ b → (greatest (filter p (numbers (a + 1) n)) ≡ 0) ⊎ (p (greatest (filter p (numbers (a + 1) n))) ≡ true)
+        → (greatest (cond b (a ∷ filter p (numbers (a + 1) n)) (filter p (numbers (a + 1) n))) ≡ 0) ⊎ (p (greatest (cond b (a ∷ filter p (numbers (a + 1) n)) (filter p (numbers (a + 1) n)))) ≡ true)
+    step false is h = h
+    step true is h =
+        let rest = greatest (filter p (numbers (a + 1) n)) in
+        elim (cases_lt a rest) [
+          | inl above ↦
+              let same : max a rest ≡ rest = omega (arith, above) in
+              elim h [
+                | inl none ↦ inl (same ∙ none)
+                | inr picked ↦ inr (ap p same ∙ picked)
+              ]
+          | inr upto ↦ let same : max a rest ≡ a = omega (arith, upto) in inr (ap p same ∙ is)
+        ]
+
+-- what is clean of a log is clean
+pub clean-itself : (log : List Entry) → clean_at log (clean_position log) ≡ true
+clean-itself log =
+    elim (greatest-picked (clean_at log) 0 (length log + 1)) [
+      | inl none ↦ ap (clean_at log) none
+      | inr picked ↦ picked
+    ]

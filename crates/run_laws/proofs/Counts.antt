@@ -1,5 +1,5 @@
 -- Each cause stands in the yard, and came as often as the rows need that it opened, or that are late.
-use Rattle.std.proofs.Common.{◌≡◌, sym, subst, ℕ, ◌≤◌, min, Bool, true, List, [], length, map, filter, arith}
+use Rattle.std.proofs.Common.{◌≡◌, sym, subst, ℕ, ◌≤◌, ◌-◌, min, Bool, true, List, [], length, map, filter, arith}
 use Rattle.std.specs.List.{AllByRecursion}
 use Rattle.std.proofs.lemmas.List.{length-map}
 use Rattle.std.proofs.lemmas.List.Sums.{length-filter, count_by-le-length}
@@ -24,6 +24,10 @@ use Rattle.run_laws.proofs.Turns.{turn_of, turns-few, turns-most}
 -- a count that ended at most_faults is still at least what so few rows need
 capped : (n c m : ℕ) → n ≤ c → n ≤ 20000 → min c most_faults ≤ m → n ≤ m
 capped n c m low few counts = omega (arith, low, few, counts)
+
+-- .. or at one less
+spared : (n c m : ℕ) → n ≤ c → n ≤ 20000 → min c (most_faults - 1) ≤ m → n ≤ m
+spared n c m low few counts = omega (arith, low, few, counts)
 
 module _ (played : List Played) (o : Told) (yard : Shown) (e : RunEnded played o yard) where
   abbrev late_rows : List Answered
@@ -54,7 +58,8 @@ module _ (played : List Played) (o : Told) (yard : Shown) (e : RunEnded played o
     lacks = λ cell. let few = occasions-few played o yard e (lacks_quorum cell) in let counts = e.came.lacks cell in omega (arith, few, counts);
     refusals = λ cell. counted-few (finds_full cell) _ (e.came.refusals cell);
     register = counted-few lacks_register _ e.came.register;
-    stores = λ node. counted-few (lacks_store node) _ (e.came.stores node);
+    stores = λ node. spared (occasions (lacks_store node) (map tell played)) (counted (lacks_store node) played e.faults) _ (occasions-few played o yard e (lacks_store node))
+        (let few = few_told in omega (arith, few, occasions-most (lacks_store node) (map tell played))) (e.came.stores node);
     late = all-few played e.faults yard e.came (turns_of late_rows)
         (let few = turns-few late_rows (map fault_turn e.faults) late-turns in omega (arith, few, length-map e.faults fault_turn))
         (let few = late-few in omega (arith, few));

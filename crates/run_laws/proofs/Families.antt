@@ -1,12 +1,12 @@
 -- Each fault is of one of four kinds, and the faults of each kind were counted: at the loglets, at the register or at the disks.
-use Rattle.std.proofs.Common.{◌≡◌, refl, ap, ◌∙◌, subst, ℕ, ◌+◌, ◌-◌, ◌≤◌, min, Bool, true, false, nat_le, ◌&&◌, List, [], ◌∷◌, length, count_by, sum_by, slice_get, get_or, Option, Some, None, IsSome, if◌then◌else◌, arith, eqb-true, eq-eqb}
-use Rattle.std.proofs.lemmas.Bool.{and_parts, both_ways}
+use Rattle.std.proofs.Common.{◌≡◌, refl, ap, ◌∙◌, subst, ℕ, ◌+◌, ◌-◌, ◌≤◌, min, Bool, true, false, List, [], ◌∷◌, length, count_by, sum_by, slice_get, get_or, Option, Some, None, IsSome, if◌then◌else◌, arith, eqb-true, eq-eqb}
+use Rattle.std.proofs.lemmas.Bool.{both_ways}
 use Rattle.std.proofs.lemmas.List.Sums.{sum_by-cons}
 use Rattle.std.proofs.lemmas.Option.{get_or_from_slice_get, slice_get-get_or}
 use Rattle.delos_types.specs.declared.cause.Cause.{Cause}
 use Rattle.delos_types.specs.declared.cause.Cause.TheVariants as cause
 use Rattle.loglet_api.specs.View.{LogletView}
-use Rattle.fitting_run.specs.Faults.{faults_of, finds_full, is_full, lacks_of, lacks_quorum, lacks_register, lacks_store, refusals_of, stands}
+use Rattle.fitting_run.specs.Faults.{faults_of, finds_full, is_full, lacked, lacks_of, lacks_quorum, lacks_register, lacks_store, refusals_of, stands}
 use Rattle.fitting_run.specs.Tests.{some_is}
 use Rattle.fitting_run.specs.Yard.{Shown}
 use Rattle.log_laws.proofs.Pairs.{all-imply}
@@ -53,10 +53,6 @@ is_some-test : {A : Type 0} (o : Option A) (test : A → Bool) → some_is o tes
 is_some-test None test e = absurd (both_ways false refl e)
 is_some-test (Some x) test e = refl
 
-has_cell : (o : Option LogletView) → nat_le 1 (lacks_of o) ≡ true → IsSome o
-has_cell None e = absurd (both_ways false refl e)
-has_cell (Some v) e = refl
-
 abbrev quorum_at : ℕ → Fault → Bool
 quorum_at id f = lacks_quorum id f.node f.cause
 
@@ -68,9 +64,7 @@ store_at n f = lacks_store n f.node f.cause
 
 lack-placed : (yard : Shown) (f : Fault) (c : Cause) → f.cause ≡ c → stands yard f.node c ≡ true → lacks c ≡ true → IsPlacedIn yard.cells 0 quorum_at f
 lack-placed yard f (cause.NoQuorum id unreached) is h e =
-    let reached = and_parts (nat_le 1 unreached && nat_le 1 (lacks_of (slice_get yard.cells id))) (nat_le 1 (faults_of (slice_get yard.cells id))) h in
-    let lack = and_parts (nat_le 1 unreached) (nat_le 1 (lacks_of (slice_get yard.cells id))) reached.0 in
-    record { at = id; within = has_cell (slice_get yard.cells id) lack.1; passes = ap (lacks_quorum (0 + id) f.node) is ∙ eq-eqb id (0 + id) (omega arith) }
+    record { at = id; within = is_some-test (slice_get yard.cells id) (lacked unreached) h; passes = ap (lacks_quorum (0 + id) f.node) is ∙ eq-eqb id (0 + id) (omega arith) }
 lack-placed yard f (cause.Full id) is h e = absurd (both_ways false refl e)
 lack-placed yard f cause.Meta is h e = absurd (both_ways false refl e)
 lack-placed yard f cause.Store is h e = absurd (both_ways false refl e)
@@ -110,6 +104,10 @@ module _ (played : List Played) (faults : List Fault) (yard : Shown) (h : Faults
   came-counted : (by : ℕ → Cause → Bool) (n : ℕ) → min (counted by played faults) most_faults ≤ n → min (came_by by faults) most_faults ≤ n
   came-counted by n low = omega (arith, low)
 
+  -- the first fault of a store is no cause
+  came-spared : (by : ℕ → Cause → Bool) (n : ℕ) → min (counted by played faults) (most_faults - 1) ≤ n - 1 → min (came_by by faults) most_faults ≤ n
+  came-spared by n low = omega (arith, low)
+
   lacks-few : min (came_by (λ n c. lacks c) faults) most_faults ≤ sum_by (λ v. v.lacks) yard.cells
   lacks-few =
       spread (λ v. v.lacks) quorum_at most_faults faults yard.cells 0 (λ f. lacks f.cause)
@@ -138,8 +136,8 @@ module _ (played : List Played) (faults : List Fault) (yard : Shown) (h : Faults
   stores-few : min (came_by (λ n c. fails_store c) faults) most_faults ≤ sum_by (λ n. n) yard.disks
   stores-few =
       spread (λ n. n) store_at most_faults faults yard.disks 1 (λ f. fails_store f.cause)
-      (λ i v is. came-counted (lacks_store (1 + i)) v
-      (subst (λ n. min (counted (lacks_store (1 + i)) played faults) most_faults ≤ n)
+      (λ i v is. came-spared (lacks_store (1 + i)) v
+      (subst (λ n. min (counted (lacks_store (1 + i)) played faults) (most_faults - 1) ≤ n - 1)
       (ap (λ n. get_or yard.disks n 0) (let z : (1 + i) - 1 ≡ i = omega arith in z) ∙ get_or_from_slice_get yard.disks i v 0 is) (h.stores (1 + i))))
       (all-imply (λ (f : Fault). (1 ≤ f.node) × (f.node ≤ length yard.disks)) (λ f. fails_store f.cause ≡ true → IsPlacedIn yard.disks 1 store_at f) faults
       (λ f k. store-placed yard.disks f f.cause refl k) h.nodes)

@@ -18,6 +18,7 @@ pub mod Causes
 pub mod Opened
 pub mod Occasions
 pub mod Families
+pub mod Allowing
 pub mod Answering
 pub mod Orders
 pub mod Looks

@@ -1,8 +1,9 @@
 -- Reads are current: each shows the table after what acts below where it looked, and sees of its session what was asked before.
-use Rattle.std.proofs.Common.{◌≡◌, refl, sym, ap, ◌∙◌, subst, ℕ, ◌+◌, ◌≤◌, true, false, not, ◌&&◌, List, [], ◌∷◌, ◌++◌, Option, Some, None, is_some, length, map, take, nat_lt, nat_le, arith, le-leb, lt-ltb, le-ltb, ltb-false}
+use Rattle.std.proofs.Common.{◌≡◌, refl, sym, ap, ◌∙◌, subst, ℕ, ◌+◌, ◌≤◌, true, false, not, ◌&&◌, ◌==◌, ◌<◌, List, [], ◌∷◌, ◌++◌, Option, Some, None, is_some, length, map, take, slice_get, nat_lt, nat_le, arith, eqb-true, le-leb, lt-ltb, le-ltb, ltb-false}
 use Rattle.std.proofs.lemmas.Bool.{and_from, and_parts, both_ways, not-true}
 use Rattle.delos_types.specs.declared.entry.Entry.{Entry}
 use Rattle.delos_types.specs.declared.place.Place.{Place}
+use Rattle.table_core.specs.declared.command.Found.{Found}
 use Rattle.engine_api.specs.declared.act.Act.{Act}
 use Rattle.engine_api.specs.Acted.{asked_in}
 use Rattle.engine_api.specs.Order.{gap_from}
@@ -17,7 +18,7 @@ use Rattle.fitting_run.specs.declared.told.Told.{Told}
 use Rattle.fitting_run.specs.Acts.{placed_acts}
 use Rattle.fitting_run.specs.Answered.{is_logged, is_placed_on_time, logs, looked_at, on_read, on_time, place_on_time, same_session}
 use Rattle.fitting_run.specs.Fits.{told_of}
-use Rattle.fitting_run.specs.Reads.{ReadsAreCurrent, Shows, is_kept_open, looks_in_order}
+use Rattle.fitting_run.specs.Reads.{ReadsAreCurrent, Shows, is_kept_open, looks_forward, looks_in_order}
 use Rattle.fitting_run.specs.Yard.{Shown}
 use Rattle.run_laws.specs.Ended.{CameOf, Fault, Played, RunEnded, SessionEnd, rank_in, session_in}
 use Rattle.run_laws.proofs.Answering.{IsOnTime, its-act, logged_by, logged-more, logged-own, one-session}
@@ -26,6 +27,7 @@ use Rattle.run_laws.proofs.Fronts.{below-gap}
 use Rattle.run_laws.proofs.Members.{all-map, all-test}
 use Rattle.run_laws.proofs.Orders.{Looked, OnTime, Turn, all_turns, turn-looked, turn-on_time}
 use Rattle.run_laws.proofs.Placing.{placed-are_acts}
+use Rattle.run_laws.proofs.Replacing.{pairs-places}
 use Rattle.run_laws.proofs.Telling.{tell, told-is}
 use Rattle.run_laws.proofs.Tests.{each_pair-from, implies-from, where_some-from}
 
@@ -39,6 +41,10 @@ shows-table log tails faults ends before t told (asks.Admin a) o acts h = tt
 
 nothing : {A : Type 0} (x : A) → None ≡ Some x → ⊥
 nothing x e = cc
+
+read-is : (o : Outcome) (after : ℕ) → looked_at o ≡ Some after → (found : Found) × (o ≡ out.Read after found)
+read-is (out.Read at found) after e = (found, let same : at ≡ after = cc in ap (λ n. out.Read n found) same)
+read-is o after e = absurd (nothing after e)
 
 -- what a read saw is answered by its phase's end
 read-answered : (log : List Entry) (tails : ℕ → ℕ) (faults : List Fault) (ends : ℕ → SessionEnd) (before : List Played) (t : Played) (a : Asks) (o : Outcome) (after : ℕ)
@@ -130,6 +136,15 @@ module _ (played : List Played) (o : Told) (yard : Shown) (e : RunEnded played o
           let timely = answered-on_time e.log e.tails e.faults e.ends b t t.line.asks t.row.outcome h.0.1.came logged (omega (arith, few, more, rank, ends)) in
           absurd (both_ways (is_placed_on_time (tell t)) (not-true _ missed) timely)
 
+  looks-forward : (i j : ℕ) (t u : Played) → slice_get played i ≡ Some t → slice_get played j ≡ Some u → i < j → looks_forward (tell t) (tell u) ≡ true
+  looks-forward i j t u is it low =
+      implies-from (t.line.node == u.line.node) (on_read t.row.outcome (λ after. on_read u.row.outcome (λ later. nat_le after later))) (λ same.
+      where_some-from (looked_at t.row.outcome) (λ after. on_read u.row.outcome (λ later. nat_le after later)) (λ after saw.
+      where_some-from (looked_at u.row.outcome) (λ later. nat_le after later) (λ later next.
+      let a = read-is t.row.outcome after saw in
+      let b = read-is u.row.outcome later next in
+      le-leb after later (e.forward i j t u after later a.0 b.0 is it low (eqb-true t.line.node u.line.node same) a.1 b.1))))
+
   told-current : ReadsAreCurrent (map tell played) o.end
   told-current = record {
     within = all-test tell (λ a. on_read a.row.outcome (λ after. nat_le after o.end)) played
@@ -141,6 +156,7 @@ module _ (played : List Played) (o : Told) (yard : Shown) (e : RunEnded played o
         (λ b t h. shows-table e.log e.tails e.faults e.ends b t (map tell played) t.line.asks t.row.outcome (placed-are_acts played o yard e) h.0.1.came) (all_turns played o yard e));
     order = each_pair-from tell looks_in_order played
         (pairs-behind (Turn played o yard e) (λ t u. looks_in_order (tell t) (tell u) ≡ true) [] played looks-ordered (all_turns played o yard e));
+    forward = each_pair-from tell looks_forward played (pairs-places (λ t u. looks_forward (tell t) (tell u) ≡ true) played looks-forward);
     kept = each_pair-from tell is_kept_open played
         (pairs-behind (Turn played o yard e) (λ t u. is_kept_open (tell t) (tell u) ≡ true) [] played kept-open (all_turns played o yard e));
   }

@@ -1,6 +1,6 @@
 -- One row for each line, and the order of sessions and barriers.
-use Rattle.std.proofs.Common.{◌≡◌, refl, sym, ap, ◌∙◌, subst, inl, inr, ℕ, zero, suc, ◌+◌, ◌<◌, ◌≤◌, Bool, true, false, not, Some, IsSome, List, [], ◌∷◌, ◌++◌, length, map, nat_lt, nat_le, ◌==◌, ◌&&◌, ◌||◌, arith, le-leb, lt-ltb, ltb-true, eq-eqb}
-use Rattle.std.specs.List.{AllByRecursion, list_all, list_any}
+use Rattle.std.proofs.Common.{◌≡◌, refl, sym, ap, ◌∙◌, subst, inl, inr, ℕ, zero, suc, ◌+◌, ◌<◌, ◌≤◌, Bool, true, false, not, if◌then◌else◌, Option, Some, None, IsSome, List, [], ◌∷◌, ◌++◌, length, map, nat_lt, nat_le, ◌==◌, ◌&&◌, ◌||◌, arith, le-leb, lt-ltb, ltb-true, ltb-false, eq-eqb}
+use Rattle.std.specs.List.{AllByRecursion, filter_map, list_all, list_any}
 use Rattle.std.proofs.lemmas.Bool.{and_from, and_parts, cases_lt, not-true, or_left, or_right}
 use Rattle.std.proofs.lemmas.List.{length-map}
 use Rattle.delos_types.specs.declared.entry.Entry.{Entry}
@@ -9,19 +9,27 @@ use Rattle.delos_types.specs.declared.cause.Cause.{Cause}
 use Rattle.delos_types.specs.declared.cause.Cause.TheVariants as cause
 use Rattle.engine_api.specs.declared.act.Act.{Act}
 use Rattle.log_laws.specs.State.{acts_in}
+use Rattle.fitting_run.specs.declared.answered.Answered.{Answered}
 use Rattle.fitting_run.specs.declared.told.Told.{Told}
-use Rattle.fitting_run.specs.Answered.{before_barrier, cause_of, same_cause, is_logged, is_open, is_placed_on_time, looked_at, on_read, on_time, place_le, place_on_time, same_session, session_asking}
+use Rattle.fitting_run.specs.Answered.{before_barrier, cause_of, same_cause, is_logged, is_open, is_placed_on_time, looked_at, on_time, place_le, place_on_time, same_session, session_asking}
 use Rattle.fitting_run.specs.Faults.{is_broken, stops}
 use Rattle.fitting_run.specs.Fits.{told_of}
-use Rattle.fitting_run.specs.Outcomes.{KeepsSessionOrder, OneRowEach, is_above, is_not_below, is_passed, is_row_of, is_stopped_by, keeps_barrier, keeps_barriers, rises, shares_cause, tells_why}
+use Rattle.fitting_run.specs.Outcomes.{KeepsSessionOrder, OneRowEach, begins_upto, comes_below, is_row_of, is_stopped_by, keeps_barrier, keeps_barriers, rises, stop_cause}
+use Rattle.fitting_run.specs.Tests.{each_pair, where_some}
 use Rattle.fitting_run.specs.Yard.{Shown}
+use Rattle.fitting_run.proofs.Implied.{pairs_given}
+use Rattle.script_text.specs.declared.line.Admin.TheVariants.{Extend, Alive, Trim, Retire}
+use Rattle.script_text.specs.declared.asks.Asks.{Asks}
+use Rattle.script_text.specs.declared.asks.Asks.TheVariants as asks
+use Rattle.row_text.specs.declared.row.Outcome.{Outcome}
+use Rattle.row_text.specs.declared.row.Outcome.TheVariants as out
 use Rattle.log_laws.specs.Order.{ActsBefore}
 use Rattle.log_laws.proofs.Acting.{in_order}
-use Rattle.run_laws.specs.Ended.{AllAfter, Played, RunEnded, session_in}
+use Rattle.run_laws.specs.Ended.{AllAfter, CameOf, Fault, Played, RunEnded, SessionEnd, session_in}
 use Rattle.run_laws.proofs.Answering.{IsLook, IsOnTime, IsRanked, all_ranked, has-session, its-act, logged_by, logged-own, looked, not-on_time, on-time, one-session}
 use Rattle.run_laws.proofs.Behind.{after-both, after-each, any-mapped, pairs-behind}
 use Rattle.run_laws.proofs.Causes.{Ended, logged-stop, some-of}
-use Rattle.run_laws.proofs.Members.{Among, all-at, all-test}
+use Rattle.run_laws.proofs.Members.{Among, all-at, all-of, all-test}
 use Rattle.run_laws.proofs.Occasions.{all_ended}
 use Rattle.run_laws.proofs.Pairs.{pair-at, pairs-any, pairs-both}
 use Rattle.run_laws.proofs.Ranks.{RanksRise, ranks-rise}
@@ -79,6 +87,70 @@ tails-rise tails rise n (suc m) low =
           let next : m + 1 ≡ suc m = omega arith in
           subst (λ k. tails n ≤ tails k) next (omega (arith, far, near))
     ]
+
+none_some : {A : Type 0} (x : A) → None ≡ Some x → ⊥
+none_some x e = cc
+
+same_some : {A : Type 0} (x y : A) → Some x ≡ Some y → x ≡ y
+same_some x y e = cc
+
+module _ (log : List Entry) (tails : ℕ → ℕ) (faults : List Fault) (ends : ℕ → SessionEnd) (before : List Played) (t : Played) where
+  -- what the row tells of came below the tail at which the next phase began
+  stands-below : (a : Asks) (o : Outcome) (position : ℕ) → CameOf log tails faults ends before t a o → tails (t.line.phase + 1) ≤ position → comes_below o position ≡ true
+  stands-below (asks.Logged s r c) (out.Placed place reply true) position h high = refl
+  stands-below (asks.Logged s r c) (out.Placed place reply false) position h high =
+      let low = h.upto (ltb-false (ends s.id).answered r (sym h.late_is)) in
+      lt-ltb place.pos position (subst (λ (q : Place). q.pos < position) (sym h.place_is) (omega (arith, low, high)))
+  stands-below (asks.Logged s r c) (out.Open cause) position h high = refl
+  stands-below (asks.Logged s r c) o position h high = absurd h
+  stands-below (asks.Look s q) (out.Read after found) position h high = le-leb after position (let upto = h.upto in omega (arith, upto, high))
+  stands-below (asks.Look s q) (out.Open cause) position h high = refl
+  stands-below (asks.Look s q) o position h high = absurd h
+  stands-below (asks.Admin Extend) (out.Extended version start) position h high = le-leb start position (let upto = h.1 in omega (arith, upto, high))
+  stands-below (asks.Admin Alive) (out.Extended version start) position h high = absurd h
+  stands-below (asks.Admin Trim) (out.Extended version start) position h high = absurd h
+  stands-below (asks.Admin Retire) (out.Extended version start) position h high = absurd h
+  stands-below (asks.Admin Extend) (out.Placed place reply late) position h high = absurd h
+  stands-below (asks.Admin Alive) (out.Placed place reply late) position h high = absurd h
+  stands-below (asks.Admin Trim) (out.Placed place reply late) position h high = absurd h
+  stands-below (asks.Admin Retire) (out.Placed place reply late) position h high = absurd h
+  stands-below (asks.Admin Extend) (out.Read after found) position h high = absurd h
+  stands-below (asks.Admin Alive) (out.Read after found) position h high = absurd h
+  stands-below (asks.Admin Trim) (out.Read after found) position h high = absurd h
+  stands-below (asks.Admin Retire) (out.Read after found) position h high = absurd h
+  stands-below (asks.Admin a) o position h high = refl
+
+  -- and not below the tail at which its own began
+  stands-from : (a : Asks) (o : Outcome) (position : ℕ) → CameOf log tails faults ends before t a o → begins_upto o ≡ Some position → tails t.line.phase ≤ position
+  stands-from (asks.Logged s r c) (out.Placed place reply late) position h e =
+      let same = same_some place.pos position e in
+      let is : place.pos ≡ h.act.place.pos = ap (λ (q : Place). q.pos) h.place_is in
+      let from = h.from in
+      omega (arith, same, is, from)
+  stands-from (asks.Logged s r c) (out.Open cause) position h e = absurd (none_some position e)
+  stands-from (asks.Logged s r c) o position h e = absurd h
+  stands-from (asks.Look s q) (out.Read after found) position h e =
+      let same = same_some after position e in
+      let from = h.from in
+      omega (arith, same, from)
+  stands-from (asks.Look s q) (out.Open cause) position h e = absurd (none_some position e)
+  stands-from (asks.Look s q) o position h e = absurd h
+  stands-from (asks.Admin Extend) (out.Extended version start) position h e =
+      let same = same_some start position e in
+      let from = h.0 in
+      omega (arith, same, from)
+  stands-from (asks.Admin Alive) (out.Extended version start) position h e = absurd h
+  stands-from (asks.Admin Trim) (out.Extended version start) position h e = absurd h
+  stands-from (asks.Admin Retire) (out.Extended version start) position h e = absurd h
+  stands-from (asks.Admin Extend) (out.Placed place reply late) position h e = absurd h
+  stands-from (asks.Admin Alive) (out.Placed place reply late) position h e = absurd h
+  stands-from (asks.Admin Trim) (out.Placed place reply late) position h e = absurd h
+  stands-from (asks.Admin Retire) (out.Placed place reply late) position h e = absurd h
+  stands-from (asks.Admin Extend) (out.Read after found) position h e = absurd h
+  stands-from (asks.Admin Alive) (out.Read after found) position h e = absurd h
+  stands-from (asks.Admin Trim) (out.Read after found) position h e = absurd h
+  stands-from (asks.Admin Retire) (out.Read after found) position h e = absurd h
+  stands-from (asks.Admin a) o position h e = absurd (none_some position e)
 
 module _ (played : List Played) (o : Told) (yard : Shown) (e : RunEnded played o yard) where
   -- a line that ended, of the next rank of its session where it logs
@@ -148,7 +220,7 @@ module _ (played : List Played) (o : Told) (yard : Shown) (e : RunEnded played o
 
   -- a row that tells why its session was stopped tells the cause of that
   abbrev TellsStop : Played → Type 0
-  TellsStop t = (k : Cause) → tells_why (map tell played) (tell t) ≡ true → cause_of t.row.outcome ≡ Some k → (e.ends (session_in t.line.asks)).stopped ≡ Some k
+  TellsStop t = (k : Cause) → (is_logged (tell t) || list_any (stops (tell t)) (map tell played)) ≡ true → cause_of t.row.outcome ≡ Some k → (e.ends (session_in t.line.asks)).stopped ≡ Some k
 
   -- .. where its session was stopped by a row of an earlier phase
   stop-told : (b : List Played) (t : Played) → Turn b t → (k : Cause) → list_any (stops (tell t)) (map tell played) ≡ true → cause_of t.row.outcome ≡ Some k → (e.ends (session_in t.line.asks)).stopped ≡ Some k
@@ -175,63 +247,66 @@ module _ (played : List Played) (o : Told) (yard : Shown) (e : RunEnded played o
       by b t h k true logged why is = logged-stop e.log e.tails e.faults e.ends b t t.line.asks t.row.outcome k h.0.1.came logged is
       by b t h k false logged why is = stop-told b t h k (subst (λ x. (x || list_any (stops (tell t)) (map tell played)) ≡ true) logged why) is
 
-  shares : (t u : Played) → Among played t → Among played u → shares_cause (map tell played) (tell t) (tell u) ≡ true
-  shares t u m n =
+  -- .. and so is each cause that rows of its session tell
+  stopped-by : (t u : Played) → Among played u → (k : Cause) → stop_cause (map tell played) (tell t) (tell u) ≡ Some k → (e.ends (session_in t.line.asks)).stopped ≡ Some k
+  stopped-by t u m k is =
       let session = same_session (tell t) (tell u) in
-      let first = tells_why (map tell played) (tell t) in
-      let second = tells_why (map tell played) (tell u) in
-      implies-from (session && first && second) _ (λ all.
-      let two = and_parts (session && first) second all in
-      let one = and_parts session first two.0 in
-      where_some-from (cause_of t.row.outcome) _ (λ c is.
-      where_some-from (cause_of u.row.outcome) (same_cause c) (λ d it.
-      let here = all-at TellsStop played t all_tell m c one.1 is in
-      let there = all-at TellsStop played u all_tell n d two.1 it in
-      subst (λ x. same_cause c x ≡ true) (one_cause c d (sym here ∙ ap (λ s. (e.ends s).stopped) (one-session t.line.asks u.line.asks one.0) ∙ there)) (cause-itself c))))
+      let why = is_logged (tell u) || list_any (stops (tell u)) (map tell played) in
+      let w = where-told (session && why) (cause_of u.row.outcome) k is in
+      let two = and_parts session why w.0 in
+      ap (λ s. (e.ends s).stopped) (one-session t.line.asks u.line.asks two.0) ∙ all-at TellsStop played u all_tell m k two.1 w.1
+    where
+      where-told : (t : Bool) (o : Option Cause) (k : Cause) → (if t then o else None) ≡ Some k → (t ≡ true) × (o ≡ Some k)
+      where-told true o k is = (refl, is)
+      where-told false o k is = absurd (cc)
+
+  shares : (t u v : Played) → Among played u → Among played v → where_some (stop_cause (map tell played) (tell t) (tell u)) (λ c. where_some (stop_cause (map tell played) (tell t) (tell v)) (same_cause c)) ≡ true
+  shares t u v m n =
+      where_some-from (stop_cause (map tell played) (tell t) (tell u)) _ (λ c is.
+      where_some-from (stop_cause (map tell played) (tell t) (tell v)) (same_cause c) (λ d it.
+      subst (λ x. same_cause c x ≡ true) (one_cause c d (sym (stopped-by t u m c is) ∙ stopped-by t v n d it)) (cause-itself c)))
     where
       one_cause : (c d : Cause) → Some c ≡ Some d → c ≡ d
       one_cause c d e = cc
+
+  told-causes : list_all (λ a. each_pair same_cause (filter_map (stop_cause (map tell played) a) (map tell played))) (map tell played) ≡ true
+  told-causes =
+      all-test tell (λ a. each_pair same_cause (filter_map (stop_cause (map tell played) a) (map tell played))) played
+      (all-of (λ t. each_pair same_cause (filter_map (stop_cause (map tell played) (tell t)) (map tell played)) ≡ true) played (λ t here.
+      let r : Answered → Answered → Bool = λ a b. where_some (stop_cause (map tell played) (tell t) a) (λ c. where_some (stop_cause (map tell played) (tell t) b) (same_cause c)) in
+      pairs_given same_cause (stop_cause (map tell played) (tell t)) (map tell played)
+      ∙ each_pair-from tell r played (pairs-any (λ u v. r (tell u) (tell v) ≡ true) played (shares t))))
 
   told-session_order : KeepsSessionOrder (map tell played)
   told-session_order = record {
     places = each_pair-from tell rises played (pairs-behind Turn (λ t u. rises (tell t) (tell u) ≡ true) [] played turns-rise all_turns);
     stopped = each_pair-from tell is_stopped_by played (pairs-any (λ t u. is_stopped_by (tell t) (tell u) ≡ true) played stays-stopped);
-    causes = each_pair-from tell (shares_cause (map tell played)) played (pairs-any (λ t u. shares_cause (map tell played) (tell t) (tell u) ≡ true) played shares);
+    causes = told-causes;
   }
 
   -- The order of phases
 
   -- what a row tells of stands in its phase
   record StandsInPhase (t : Played) : Type 0 where
-    pub placed : (p : Place) → place_on_time t.row.outcome ≡ Some p → (e.tails t.line.phase ≤ p.pos) × (p.pos < e.tails (t.line.phase + 1))
-    pub read : (after : ℕ) → looked_at t.row.outcome ≡ Some after → (e.tails t.line.phase ≤ after) × (after ≤ e.tails (t.line.phase + 1))
+    pub below : (position : ℕ) → e.tails (t.line.phase + 1) ≤ position → comes_below t.row.outcome position ≡ true
+    pub from : (position : ℕ) → begins_upto t.row.outcome ≡ Some position → e.tails t.line.phase ≤ position
 
   all_stand : AllByRecursion StandsInPhase played
   all_stand =
       after-each Turn StandsInPhase [] played (λ b t h. record {
-        placed = λ p is. let x = turn-on_time b t h p is in (x.from, x.upto);
-        read = λ after is. let x = turn-looked b t h after is in (x.from, x.upto);
+        below = λ position high. stands-below e.log e.tails e.faults e.ends b t t.line.asks t.row.outcome position h.0.1.came high;
+        from = λ position is. stands-from e.log e.tails e.faults e.ends b t t.line.asks t.row.outcome position h.0.1.came is;
       }) all_turns
 
-  passes : (t u : Played) → StandsInPhase t → StandsInPhase u → t.line.phase < u.line.phase → is_passed (tell t) (tell u) ≡ true
+  passes : (t u : Played) → StandsInPhase t → StandsInPhase u → t.line.phase < u.line.phase → where_some (begins_upto u.row.outcome) (comes_below t.row.outcome) ≡ true
   passes t u h k early =
       let rise : e.tails (t.line.phase + 1) ≤ e.tails u.line.phase = tails-rise e.tails e.rise (t.line.phase + 1) u.line.phase (omega (arith, early)) in
-      and_from (on_time t.row.outcome (λ p. is_above p u.row.outcome)) (on_read t.row.outcome (λ after. is_not_below after u.row.outcome))
-      (where_some-from (place_on_time t.row.outcome) (λ p. is_above p u.row.outcome) (λ p is.
-      let x = (h.placed p is).1 in
-      and_from (on_time u.row.outcome (λ q. nat_lt p.pos q.pos)) (on_read u.row.outcome (λ after. nat_lt p.pos after))
-      (where_some-from (place_on_time u.row.outcome) (λ q. nat_lt p.pos q.pos) (λ q it. lt-ltb p.pos q.pos (let y = (k.placed q it).0 in omega (arith, x, y, rise))))
-      (where_some-from (looked_at u.row.outcome) (λ after. nat_lt p.pos after) (λ after it. lt-ltb p.pos after (let y = (k.read after it).0 in omega (arith, x, y, rise))))))
-      (where_some-from (looked_at t.row.outcome) (λ after. is_not_below after u.row.outcome) (λ after is.
-      let x = (h.read after is).1 in
-      and_from (on_time u.row.outcome (λ q. nat_le after q.pos)) (on_read u.row.outcome (λ later. nat_le after later))
-      (where_some-from (place_on_time u.row.outcome) (λ q. nat_le after q.pos) (λ q it. le-leb after q.pos (let y = (k.placed q it).0 in omega (arith, x, y, rise))))
-      (where_some-from (looked_at u.row.outcome) (λ later. nat_le after later) (λ later it. le-leb after later (let y = (k.read later it).0 in omega (arith, x, y, rise))))))
+      where_some-from (begins_upto u.row.outcome) (comes_below t.row.outcome) (λ position is. h.below position (let from = k.from position is in omega (arith, rise, from)))
 
   told-barriers : keeps_barriers (map tell played) ≡ true
   told-barriers =
       each_pair-from tell keeps_barrier played (pairs-any (λ t u. keeps_barrier (tell t) (tell u) ≡ true) played
-      (λ t u m n. implies-from (before_barrier (tell t) (tell u)) (is_passed (tell t) (tell u))
+      (λ t u m n. implies-from (before_barrier (tell t) (tell u)) (where_some (begins_upto u.row.outcome) (comes_below t.row.outcome))
       (λ early. passes t u (all-at StandsInPhase played t all_stand m) (all-at StandsInPhase played u all_stand n) (ltb-true t.line.phase u.line.phase early))))
 
   -- One row for each line

@@ -12,7 +12,7 @@ use Rattle.log_laws.specs.State.{acts_in}
 use Rattle.log_laws.proofs.Replies.{NextTo, after, gaps, replied_next, acted_follow}
 use Rattle.log_laws.specs.Order.{EachPair}
 use Rattle.log_laws.proofs.Pairs.{all-imply}
-use Rattle.fitting_run.specs.Acts.{number_of, next_rank, has_first_ranks}
+use Rattle.fitting_run.specs.Turns.{number_of, next_rank, has_first_ranks}
 
 -- of a session the earlier act has the lower rank
 abbrev pub RanksRise : Act → Act → Type 0

@@ -1,18 +1,17 @@
 -- Replacements of the loglet: what is known of their rows agrees with the chain.
-use Rattle.std.proofs.Common.{◌≡◌, refl, sym, subst, inl, inr, ◌⊎◌, ℕ, zero, suc, ◌+◌, ◌<◌, ◌≤◌, Bool, true, false, not, ◌&&◌, ◌||◌, ◌==◌, cond, List, [], ◌∷◌, Some, is_some, length, map, nat_lt, nat_le, count_by, slice_get, arith, lt-ltb, ltb-true, le-leb, eq-eqb, eqb-true, ne_eqb}
+use Rattle.std.proofs.Common.{◌≡◌, refl, sym, subst, inl, inr, ◌⊎◌, ℕ, zero, suc, ◌+◌, ◌<◌, Bool, true, false, not, ◌&&◌, ◌||◌, ◌==◌, cond, List, [], ◌∷◌, Some, is_some, length, map, nat_lt, nat_le, count_by, slice_get, arith, lt-ltb, ltb-true, le-leb, eq-eqb, eqb-true, ne_eqb}
 use Rattle.std.specs.List.{AllByRecursion, list_all, list_any}
-use Rattle.std.proofs.lemmas.Bool.{and_from, and_parts, both_ways, not_from_false}
+use Rattle.std.proofs.lemmas.Bool.{and_from, and_parts, both_ways, not_from_false, or_left, or_right}
 use Rattle.std.proofs.lemmas.List.Sums.{sum_by-cons}
 use Rattle.delos_types.specs.declared.chain.Chain.{Chain}
 use Rattle.chain_map.specs.Chain.{last_id}
 use Rattle.row_text.specs.declared.row.Outcome.{Outcome}
 use Rattle.row_text.specs.declared.row.Outcome.TheVariants as out
-use Rattle.script_text.specs.declared.asks.NamedLine.{NamedLine}
 use Rattle.fitting_run.specs.declared.answered.Answered.{Answered}
 use Rattle.fitting_run.specs.declared.told.Told.{Told}
 use Rattle.fitting_run.specs.Answered.{before_barrier}
 use Rattle.fitting_run.specs.Fits.{told_of}
-use Rattle.fitting_run.specs.Replacements.{ReplacementsAgree, begins_at, has_ids, is_behind, is_beside, is_overtaken, lacks_spare, makes_another, start_made, stays_spent, tells_higher, version_found, version_made, version_told, versions_at}
+use Rattle.fitting_run.specs.Replacements.{ReplacementsAgree, begins_at, has_ids, is_behind, is_beside, is_overtaken, lacks_spare, make_in_order, start_made, stays_spent, tells_higher, version_found, version_told, versions_at}
 use Rattle.fitting_run.specs.Tests.{◌⇒◌, where_some}
 use Rattle.fitting_run.specs.Yard.{Shown}
 use Rattle.log_laws.specs.Order.{EachPair}
@@ -39,8 +38,9 @@ pairs-places R (x ∷ xs) f = (
 
 -- What rows tell
 
-apart-test : (a b : Outcome) → IsApart a b → where_some (version_made a) (λ v. where_some (version_made b) (λ w. not (v == w))) ≡ true
-apart-test (out.Extended v s) (out.Extended w r) h = not_from_false (v == w) (ne_eqb v w h)
+apart-test : (a b : Outcome) → IsApart a b → make_in_order a b ≡ true
+apart-test (out.Extended v s) (out.Extended w r) (inl h) = let low = h.0 in let start = h.1 in or_left (nat_lt v w && nat_le s r) (nat_lt w v && nat_le r s) (and_from (nat_lt v w) (nat_le s r) (lt-ltb v w low) (le-leb s r start))
+apart-test (out.Extended v s) (out.Extended w r) (inr h) = let low = h.0 in let start = h.1 in or_right (nat_lt v w && nat_le s r) (nat_lt w v && nat_le r s) (and_from (nat_lt w v) (nat_le r s) (lt-ltb w v low) (le-leb r s start))
 apart-test (out.Extended v s) b h = refl
 apart-test a b h = refl
 
@@ -119,8 +119,8 @@ module _ (played : List Played) (version : ℕ) (chain : Chain) (shelf : ℕ) (h
 
   pub told-agree : ReplacementsAgree (map (λ t. t.line) played) (map tell played) version chain shelf
   told-agree = record {
-    versions = each_pair-from tell makes_another played
-        (pairs-places (λ t u. makes_another (tell t) (tell u) ≡ true) played (λ i j t u is it low. apart-test t.row.outcome u.row.outcome (h.apart i j t u is it low)));
+    versions = each_pair-from tell (λ a b. make_in_order a.row.outcome b.row.outcome) played
+        (pairs-places (λ t u. make_in_order t.row.outcome u.row.outcome ≡ true) played (λ i j t u is it low. apart-test t.row.outcome u.row.outcome (h.apart i j t u is it low)));
     rise = each_pair-from tell tells_higher played (pairs-imply InOrder (λ t u. tells_higher (tell t) (tell u) ≡ true) played
         (λ t u k. implies-from (is_behind (tell t) (tell u)) _ (λ behind. higher-test t.row.outcome u.row.outcome (k (behind-is (tell t) (tell u) behind))))
         all_in_order);
@@ -139,6 +139,7 @@ module _ (played : List Played) (version : ℕ) (chain : Chain) (shelf : ℕ) (h
         let k = h.found i t v is told in
         and_from (nat_le 2 v) (list_any (is_beside (tell t)) (map (λ (u : Played). u.line) played)) (le-leb 2 v k.0) (any-at (λ (u : Played). u.line) (is_beside (tell t)) played k.1.turn (among-get played k.1.at k.1.turn k.1.is) (beside-is t k.1.turn k.1.so)))));
     last = each-tells (λ o. lacks_spare o ⇒ (last_id chain + 1 == shelf)) (last-test version chain shelf);
+    counts = h.counts;
   }
 
 pub replacements-agree : (played : List Played) (o : Told) (yard : Shown) → RunEnded played o yard

@@ -32,7 +32,7 @@ use Rattle.log_laws.proofs.Pairs.{all-imply}
 use Rattle.run_laws.specs.Ended.{CameOf, Fault, HasReported, IsOfEarlier, LogsThis, Played, RunEnded, SaysFrom, SessionEnd, StandsFrom, rank_in, session_in}
 use Rattle.run_laws.proofs.Answering.{its-act}
 use Rattle.run_laws.proofs.Behind.{after-each}
-use Rattle.run_laws.proofs.Clean.{clean-most, clean-within}
+use Rattle.run_laws.proofs.Clean.{clean-itself, clean-most, clean-within}
 use Rattle.run_laws.proofs.Fronts.{below-gap}
 use Rattle.run_laws.proofs.Members.{Among, all-at, all-of, all-test, among-get, among-map, contained-among, contains-among}
 use Rattle.run_laws.proofs.Orders.{OnTime, Turn, all_turns, tails-rise, turn-on_time}
@@ -104,43 +104,44 @@ says-some chain cells from c test h is =
 stands-test : (n : ℕ) (o : Outcome) → StandsFrom n o → is_from n o ≡ true
 stands-test n (out.Placed place reply late) h = le-leb n place.pos h
 stands-test n (out.Read after found) h = le-leb n after h
+stands-test n (out.Alive clean) h = le-leb n clean h
 stands-test n o h = refl
 
-stands-below : (n m : ℕ) (o : Outcome) → n ≤ m → StandsFrom m o → StandsFrom n o
-stands-below n m (out.Placed place reply late) low h = omega (arith, low, h)
-stands-below n m (out.Read after found) low h = omega (arith, low, h)
-stands-below n m (out.Extended version start) low h = tt
-stands-below n m (out.Moved version) low h = tt
-stands-below n m out.NoSpare low h = tt
-stands-below n m (out.Alive clean) low h = tt
-stands-below n m (out.Trimmed trim) low h = tt
-stands-below n m out.Retired low h = tt
-stands-below n m (out.Open cause) low h = tt
-
--- what a row says doesn't stand below the tail at which its phase began
-came-from : (log : List Entry) (tails : ℕ → ℕ) (faults : List Fault) (ends : ℕ → SessionEnd) (before : List Played) (t : Played) (a : Asks) (o : Outcome)
-    → CameOf log tails faults ends before t a o → StandsFrom (tails t.line.phase) o
-came-from log tails faults ends before t (asks.Logged s r c) (out.Placed place reply late) h = subst (λ (p : Place). tails t.line.phase ≤ p.pos) (sym h.place_is) h.from
-came-from log tails faults ends before t (asks.Logged s r c) (out.Open cause) h = tt
-came-from log tails faults ends before t (asks.Logged s r c) o h = absurd h
-came-from log tails faults ends before t (asks.Look s q) (out.Read after found) h = h.from
-came-from log tails faults ends before t (asks.Look s q) (out.Open cause) h = tt
-came-from log tails faults ends before t (asks.Look s q) o h = absurd h
-came-from log tails faults ends before t (asks.Admin Extend) (out.Placed place reply late) h = absurd h
-came-from log tails faults ends before t (asks.Admin Alive) (out.Placed place reply late) h = absurd h
-came-from log tails faults ends before t (asks.Admin Trim) (out.Placed place reply late) h = absurd h
-came-from log tails faults ends before t (asks.Admin Retire) (out.Placed place reply late) h = absurd h
-came-from log tails faults ends before t (asks.Admin Extend) (out.Read after found) h = absurd h
-came-from log tails faults ends before t (asks.Admin Alive) (out.Read after found) h = absurd h
-came-from log tails faults ends before t (asks.Admin Trim) (out.Read after found) h = absurd h
-came-from log tails faults ends before t (asks.Admin Retire) (out.Read after found) h = absurd h
-came-from log tails faults ends before t (asks.Admin a) (out.Extended version start) h = tt
-came-from log tails faults ends before t (asks.Admin a) (out.Moved version) h = tt
-came-from log tails faults ends before t (asks.Admin a) out.NoSpare h = tt
-came-from log tails faults ends before t (asks.Admin a) (out.Alive clean) h = tt
-came-from log tails faults ends before t (asks.Admin a) (out.Trimmed trim) h = tt
-came-from log tails faults ends before t (asks.Admin a) out.Retired h = tt
-came-from log tails faults ends before t (asks.Admin a) (out.Open cause) h = tt
+-- What a row says doesn't stand below the tail at which its phase began. What it reports isn't less than what is clean of the log that was
+-- there then.
+came-from : (log : List Entry) (tails : ℕ → ℕ) (faults : List Fault) (ends : ℕ → SessionEnd) (before : List Played) (t : Played) (n : ℕ) (a : Asks) (o : Outcome)
+    → n ≤ tails t.line.phase → clean_at log n ≡ true → CameOf log tails faults ends before t a o → StandsFrom n o
+came-from log tails faults ends before t n (asks.Logged s r c) (out.Placed place reply late) low clean h = let from = subst (λ (p : Place). tails t.line.phase ≤ p.pos) (sym h.place_is) h.from in omega (arith, low, from)
+came-from log tails faults ends before t n (asks.Logged s r c) (out.Open cause) low clean h = tt
+came-from log tails faults ends before t n (asks.Logged s r c) o low clean h = absurd h
+came-from log tails faults ends before t n (asks.Look s q) (out.Read after found) low clean h = let from = h.from in omega (arith, low, from)
+came-from log tails faults ends before t n (asks.Look s q) (out.Open cause) low clean h = tt
+came-from log tails faults ends before t n (asks.Look s q) o low clean h = absurd h
+came-from log tails faults ends before t n (asks.Admin Extend) (out.Placed place reply late) low clean h = absurd h
+came-from log tails faults ends before t n (asks.Admin Alive) (out.Placed place reply late) low clean h = absurd h
+came-from log tails faults ends before t n (asks.Admin Trim) (out.Placed place reply late) low clean h = absurd h
+came-from log tails faults ends before t n (asks.Admin Retire) (out.Placed place reply late) low clean h = absurd h
+came-from log tails faults ends before t n (asks.Admin Extend) (out.Read after found) low clean h = absurd h
+came-from log tails faults ends before t n (asks.Admin Alive) (out.Read after found) low clean h = absurd h
+came-from log tails faults ends before t n (asks.Admin Trim) (out.Read after found) low clean h = absurd h
+came-from log tails faults ends before t n (asks.Admin Retire) (out.Read after found) low clean h = absurd h
+came-from log tails faults ends before t n (asks.Admin Alive) (out.Alive d) low clean h =
+    let from = h.from in
+    let within = h.within in
+    let front : clean_at (take h.upto log) n ≡ true = ap (λ l. is_clean (λ s. 1) (asked_in 0 l)) (take-take n h.upto log (omega (arith, low, from))) ∙ clean in
+    let long = length-take-le h.upto log h.within in
+    let most = clean-most (take h.upto log) n (omega (arith, low, from, long)) front in
+    let is = h.is in
+    omega (arith, most, is)
+came-from log tails faults ends before t n (asks.Admin Extend) (out.Alive d) low clean h = absurd h
+came-from log tails faults ends before t n (asks.Admin Trim) (out.Alive d) low clean h = absurd h
+came-from log tails faults ends before t n (asks.Admin Retire) (out.Alive d) low clean h = absurd h
+came-from log tails faults ends before t n (asks.Admin a) (out.Extended version start) low clean h = tt
+came-from log tails faults ends before t n (asks.Admin a) (out.Moved version) low clean h = tt
+came-from log tails faults ends before t n (asks.Admin a) out.NoSpare low clean h = tt
+came-from log tails faults ends before t n (asks.Admin a) (out.Trimmed trim) low clean h = tt
+came-from log tails faults ends before t n (asks.Admin a) out.Retired low clean h = tt
+came-from log tails faults ends before t n (asks.Admin a) (out.Open cause) low clean h = tt
 
 is-left : (o : Outcome) → is_retired o ≡ true → o ≡ out.Retired
 is-left out.Retired e = refl
@@ -150,7 +151,7 @@ pub is-alive : (o : Outcome) (d : ℕ) → reported o ≡ Some d → o ≡ out.A
 is-alive (out.Alive clean) d e = cc
 is-alive o d e = absurd (nothing d e)
 
-among-at : (ts : List Played) (t : Played) → Among ts t → (i : ℕ) × (slice_get ts i ≡ Some t)
+pub among-at : (ts : List Played) (t : Played) → Among ts t → (i : ℕ) × (slice_get ts i ≡ Some t)
 among-at [] t m = absurd m
 among-at (u ∷ ts) t m = elim m [
   | inl same ↦ (0, ap (λ x. Some x) same)
@@ -267,10 +268,20 @@ module _ (played : List Played) (o : Told) (yard : Shown) (e : RunEnded played o
   -- What comes behind a report
 
   abbrev Stands : Played → Type 0
-  Stands t = StandsFrom (e.tails t.line.phase) t.row.outcome
+  Stands t = (n : ℕ) → n ≤ e.tails t.line.phase → clean_at e.log n ≡ true → StandsFrom n t.row.outcome
 
   all_stand : AllByRecursion Stands played
-  all_stand = after-each (Turn played o yard e) Stands [] played (λ b t h. came-from e.log e.tails e.faults e.ends b t t.line.asks t.row.outcome h.0.1.came) (all_turns played o yard e)
+  all_stand = after-each (Turn played o yard e) Stands [] played (λ b t h n low clean. came-from e.log e.tails e.faults e.ends b t n t.line.asks t.row.outcome low clean h.0.1.came) (all_turns played o yard e)
+
+  -- what is reported is clean
+  reports-clean : (t : Played) (d : ℕ) → HasReported e.log e.tails t.line.phase d → clean_at e.log d ≡ true
+  reports-clean t d h =
+      let front = take h.upto e.log in
+      let here : clean_at front d ≡ true = ap (clean_at front) h.is ∙ clean-itself front in
+      let low = clean-within front in
+      let long = length-take-le h.upto e.log h.within in
+      let is = h.is in
+      sym (ap (λ l. is_clean (λ s. 1) (asked_in 0 l)) (take-take d h.upto e.log (omega (arith, low, long, is)))) ∙ here
 
   -- a report isn't above the tail at which the next phase begins
   reports-low : (t : Played) (d : ℕ) → HasReported e.log e.tails t.line.phase d → d ≤ e.tails (t.line.phase + 1)
@@ -284,7 +295,7 @@ module _ (played : List Played) (o : Told) (yard : Shown) (e : RunEnded played o
             let h = all-at Reports played t all_reported (among-get played i t at) d is in
             let rise : e.tails (t.line.phase + 1) ≤ e.tails u.line.phase = tails-rise e.tails e.rise (t.line.phase + 1) u.line.phase (omega (arith, early)) in
             let under = reports-low t d h in
-            stands-below d (e.tails u.line.phase) u.row.outcome (omega (arith, rise, under)) (all-at Stands played u all_stand (among-get played j u there))
+            all-at Stands played u all_stand (among-get played j u there) d (omega (arith, rise, under)) (reports-clean t d h)
         | inr same ↦ e.above i j t u d at there low same (is-alive t.row.outcome d is)
       ])))
 

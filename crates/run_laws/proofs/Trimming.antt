@@ -1,13 +1,13 @@
 -- Trims: how far lines trimmed the log, and how far it is trimmed at the end.
-use Rattle.std.proofs.Common.{◌≡◌, ◌≢◌, refl, sym, ap, ◌∙◌, subst, inl, inr, ◌⊎◌, ℕ, zero, suc, ◌+◌, ◌<◌, ◌≤◌, Bool, true, false, not, ◌&&◌, ◌||◌, ◌==◌, if◌then◌else◌, List, [], ◌∷◌, ◌++◌, Option, Some, None, length, map, is_some, slice_get, nat_le, append_assoc, arith, le-leb, eq-eqb, eqb-true}
-use Rattle.std.specs.Prelude.{filter_map}
-use Rattle.std.specs.List.{AllByRecursion, cons_option, list_all, list_any}
+use Rattle.std.proofs.Common.{◌≡◌, ◌≢◌, refl, sym, ap, ◌∙◌, subst, inl, inr, ◌⊎◌, ℕ, zero, suc, ◌+◌, ◌<◌, ◌≤◌, Bool, true, false, not, ◌&&◌, ◌||◌, ◌==◌, if◌then◌else◌, List, [], ◌∷◌, ◌++◌, Some, None, length, map, is_some, slice_get, nat_lt, nat_le, append_assoc, arith, le-leb, eq-eqb, eqb-true, ltb-true}
+use Rattle.std.specs.Prelude.{filter}
+use Rattle.std.specs.List.{AllByRecursion, list_all, list_any}
 use Rattle.std.proofs.lemmas.Bool.{and_from, and_parts, both_ways, cases_lt, or_left, or_right}
 use Rattle.std.proofs.lemmas.List.{map-append}
 use Rattle.std.proofs.lemmas.Option.{slice_get_within}
 use Rattle.engine_api.specs.declared.content.Content.TheVariants as content
 use Rattle.engine_api.specs.declared.content.Placed.{Placed}
-use Rattle.engine_api.specs.Members.{greatest, trim_asked}
+use Rattle.engine_api.specs.Members.{report_of, trim_asked}
 use Rattle.engine_api.specs.Order.{numbers}
 use Rattle.script_text.specs.declared.line.Admin.TheVariants.{Alive, Retire}
 use Rattle.script_text.specs.declared.asks.Asks.{Asks}
@@ -22,16 +22,17 @@ use Rattle.fitting_run.specs.Fits.{told_of}
 use Rattle.fitting_run.specs.Lines.{asks_to_leave}
 use Rattle.fitting_run.specs.Replacements.{is_behind}
 use Rattle.fitting_run.specs.Reports.{is_retired, items_of, reported}
-use Rattle.fitting_run.specs.Tests.{each_after, some_is}
-use Rattle.fitting_run.specs.Trims.{TrimsStand, asks_from, asks_to_report, asks_to_trim, has_trim, is_asked_for, is_held, is_to_leave, is_to_let_go, is_to_report, is_upto, known_to, leaves, leaves_open, lets_go, most_reported, needs_above, reaches_a_report, reported_by, reports_from, rests_on_log, trimmed}
+use Rattle.fitting_run.specs.Tests.{each_amid, some_is, where_some}
+use Rattle.fitting_run.specs.Trims.{TrimsStand, asks_to_report, asks_to_trim, each_node, has_trim, is_allowed, is_as_allowed, is_reported, is_upto, may_allow, may_report, rises_to, trimmed, went_past}
+use Rattle.fitting_run.proofs.Walks.{any-among}
 use Rattle.fitting_run.specs.Yard.{Shown}
-use Rattle.run_laws.specs.Ended.{AsksForTrim, IsKnown, IsToLeave, LetsGo, LineTrimmed, Played, ReportsAbove, RunEnded, SaysReport, SaysTrim, SomeTurn, TellsUpto, TrimsEnded}
-use Rattle.run_laws.proofs.Behind.{any-at}
-use Rattle.run_laws.proofs.Members.{Among, all-filter, all-test, among-get, among-map}
-use Rattle.run_laws.proofs.Replacing.{all-places, behind-is}
-use Rattle.run_laws.proofs.Reporting.{is-alive, nothing, says-some}
+use Rattle.run_laws.specs.Ended.{IsReported, IsToLeave, LineTrimmed, MayHaveAllowed, Played, RunEnded, SaysTrim, SomeTurn, TellsFrom, TellsUpto, TrimsEnded}
+use Rattle.run_laws.proofs.Behind.{any-at, any-mapped}
+use Rattle.run_laws.proofs.Members.{Among, all-test, among-get}
+use Rattle.run_laws.proofs.Replacing.{all-places, behind-is, pairs-places}
+use Rattle.run_laws.proofs.Reporting.{among-at, nothing, says-some}
 use Rattle.run_laws.proofs.Telling.{tell, told-is}
-use Rattle.run_laws.proofs.Tests.{implies-from, where_some-from}
+use Rattle.run_laws.proofs.Tests.{each_pair-from, implies-from, where_some-from}
 
 -- Rows
 
@@ -45,97 +46,51 @@ tells_trim o e = absurd (both_ways false refl e)
 
 -- Numbers
 
-any-number : (p : ℕ → Bool) (a n k : ℕ) → a ≤ k → k < a + n → p k ≡ true → list_any p (numbers a n) ≡ true
-any-number p a zero k low high is = absurd (omega (arith, low, high))
-any-number p a (suc n) k low high is =
-    elim (cases_lt a k) [
-      | inl above ↦ or_right (p a) (list_any p (numbers (a + 1) n)) (any-number p (a + 1) n k (omega (arith, above)) (omega (arith, high)) is)
-      | inr upto ↦ let same : k ≡ a = omega (arith, low, upto) in or_left (p a) (list_any p (numbers (a + 1) n)) (ap p (sym same) ∙ is)
-    ]
-
 all-numbers : (p : ℕ → Bool) (a n : ℕ) → ((k : ℕ) → a ≤ k → k < a + n → p k ≡ true) → list_all p (numbers a n) ≡ true
 all-numbers p a zero f = refl
 all-numbers p a (suc n) f =
     and_from (p a) (list_all p (numbers (a + 1) n)) (f a (omega arith) (omega arith))
     (all-numbers p (a + 1) n (λ k low high. f k (omega (arith, low)) (omega (arith, high))))
 
--- Lists of rows
-
--- the row is of another node, or tells no more than this
-abbrev TellsFor : ℕ → ℕ → Answered → Type 0
-TellsFor node trim a = a.line.node ≡ node → TellsUpto trim a.row.outcome
-
-no-leave : (trim : ℕ) (o : Outcome) → TellsUpto trim o → is_retired o ≡ false
-no-leave trim out.Retired h = absurd h
-no-leave trim (out.Placed p reply late) h = refl
-no-leave trim (out.Read after found) h = refl
-no-leave trim (out.Extended v s) h = refl
-no-leave trim (out.Moved v) h = refl
-no-leave trim out.NoSpare h = refl
-no-leave trim (out.Alive clean) h = refl
-no-leave trim (out.Trimmed t) h = refl
-no-leave trim (out.Open c) h = refl
-
-stays-by : (node trim : ℕ) (a : Answered) → TellsFor node trim a → leaves node a ≡ false
-stays-by node trim a h = step (a.line.node == node) refl
-  where
-    step : (b : Bool) → (a.line.node == node) ≡ b → (b && is_retired a.row.outcome) ≡ false
-    step true e = no-leave trim a.row.outcome (h (eqb-true a.line.node node e))
-    step false e = refl
-
-none-leaves : (node trim : ℕ) (rows : List Answered) → AllByRecursion (TellsFor node trim) rows → list_any (leaves node) rows ≡ false
-none-leaves node trim [] h = refl
-none-leaves node trim (a ∷ rows) h = ap (λ b. b || list_any (leaves node) rows) (stays-by node trim a h.0) ∙ none-leaves node trim rows h.1
-
-low-report : (trim : ℕ) (o : Outcome) (d : ℕ) → TellsUpto trim o → reported o ≡ Some d → d ≤ trim
-low-report trim o d h e = subst (TellsUpto trim) (is-alive o d e) h
-
-reports-upto : (node trim : ℕ) (a : Answered) (d : ℕ) → TellsFor node trim a → reported_by node a ≡ Some d → d ≤ trim
-reports-upto node trim a d h = step (a.line.node == node) refl
-  where
-    step : (b : Bool) → (a.line.node == node) ≡ b → (if b then reported a.row.outcome else None) ≡ Some d → d ≤ trim
-    step true e is = low-report trim a.row.outcome d (h (eqb-true a.line.node node e)) is
-    step false e is = absurd (nothing d is)
-
-all-upto : (node trim : ℕ) (rows : List Answered) → AllByRecursion (TellsFor node trim) rows → most_reported node rows ≤ trim
-all-upto node trim [] h = omega arith
-all-upto node trim (a ∷ rows) h = step (reported_by node a) (λ d is. reports-upto node trim a d h.0 is) (all-upto node trim rows h.1)
-  where
-    step : (o : Option ℕ) → ((d : ℕ) → o ≡ Some d → d ≤ trim) → greatest (filter_map (reported_by node) rows) ≤ trim → greatest (cons_option o (filter_map (reported_by node) rows)) ≤ trim
-    step None f low = low
-    step (Some d) f low = let high = f d refl in omega (arith, high, low)
-
-most-above : (node : ℕ) (rows : List Answered) (a : Answered) (d : ℕ) → Among rows a → reported_by node a ≡ Some d → d ≤ most_reported node rows
-most-above node [] a d m is = absurd m
-most-above node (b ∷ rows) a d m is =
-    elim m [
-      | inl same ↦ first (reported_by node b) (ap (reported_by node) same ∙ is)
-      | inr later ↦ further (reported_by node b) (most-above node rows a d later is)
+fails-number : (p : ℕ → Bool) (a n k : ℕ) → a ≤ k → k < a + n → p k ≡ false → not (list_all p (numbers a n)) ≡ true
+fails-number p a zero k low high is = absurd (omega (arith, low, high))
+fails-number p a (suc n) k low high is =
+    elim (cases_lt a k) [
+      | inl above ↦ later (p a) (list_all p (numbers (a + 1) n)) (fails-number p (a + 1) n k (omega (arith, above)) (omega (arith, high)) is)
+      | inr upto ↦ let same : k ≡ a = omega (arith, low, upto) in ap (λ b. not (b && list_all p (numbers (a + 1) n))) (ap p (sym same) ∙ is)
     ]
   where
-    first : (o : Option ℕ) → o ≡ Some d → d ≤ greatest (cons_option o (filter_map (reported_by node) rows))
-    first None e = absurd (nothing d e)
-    first (Some n) e = let same : n ≡ d = cc in omega (arith, same)
+    later : (t u : Bool) → not u ≡ true → not (t && u) ≡ true
+    later true u h = h
+    later false u h = refl
 
-    further : (o : Option ℕ) → d ≤ greatest (filter_map (reported_by node) rows) → d ≤ greatest (cons_option o (filter_map (reported_by node) rows))
-    further None low = low
-    further (Some n) low = omega (arith, low)
+-- Tests
 
--- Lines
+none-passes : {A B : Type 0} (f : A → B) (p : B → Bool) (xs : List A) → AllByRecursion (λ x. p (f x) ≡ false) xs → list_any p (map f xs) ≡ false
+none-passes f p [] h = refl
+none-passes f p (x ∷ xs) h = ap (λ b. b || list_any p (map f xs)) h.0 ∙ none-passes f p xs h.1
 
-is-asked : (asked : Asks) (node other : ℕ) (test : Asks → Bool) → other ≡ node → test asked ≡ true → ((other == node) && test asked) ≡ true
-is-asked asked node other test same is = and_from (other == node) (test asked) (eq-eqb other node same) is
+fails-from : (b : Bool) → (b ≡ true → ⊥) → b ≡ false
+fails-from true never = absurd (never refl)
+fails-from false never = refl
 
-none-of : {A : Type 0} (p : A → Bool) (xs : List A) → not (list_any p xs) ≡ true → (x : A) → Among xs x → p x ≡ true → ⊥
-none-of p [] h x m is = absurd m
-none-of p (y ∷ ys) h x m is =
-    elim (p y) as (λ t. p y ≡ t → not (t || list_any p ys) ≡ true → ⊥) [
-      | true ↦ λ e k. both_ways false refl k
-      | false ↦ λ e k. elim m [
-        | inl same ↦ both_ways (p y) e (ap p same ∙ is)
-        | inr later ↦ none-of p ys k x later is
-      ]
-    ] refl h
+-- a row that tells no more than this tells of no leave, and of no report of more
+stays-by : (trim : ℕ) (o : Outcome) → TellsUpto trim o → (is_retired o || some_is (reported o) (nat_lt trim)) ≡ false
+stays-by trim out.Retired h = absurd h
+stays-by trim (out.Alive clean) h = fails-from (nat_lt trim clean) (λ e. let above = ltb-true trim clean e in omega (arith, above, h))
+stays-by trim (out.Placed p reply late) h = refl
+stays-by trim (out.Read after found) h = refl
+stays-by trim (out.Extended v s) h = refl
+stays-by trim (out.Moved v) h = refl
+stays-by trim out.NoSpare h = refl
+stays-by trim (out.Trimmed t) h = refl
+stays-by trim (out.Open c) h = refl
+
+-- a row tells that its node reported so much, or is open
+may-so : (n : ℕ) (a : Asks) (o : Outcome) → TellsFrom n a o → (some_is (reported o) (nat_le n) || (asks_to_report a && is_open o)) ≡ true
+may-so n (asks.Admin Alive) (out.Alive clean) h = or_left (nat_le n clean) (true && false) (le-leb n clean h)
+may-so n (asks.Admin Alive) (out.Open cause) h = refl
+may-so n a o h = absurd h
 
 -- The place of an element behind others
 
@@ -148,37 +103,103 @@ get-here : {A : Type 0} (xs ys : List A) (x : A) → slice_get (xs ++ x ∷ ys) 
 get-here [] ys x = refl
 get-here (y ∷ xs) ys x = get-here xs ys x
 
--- each row, behind those of the lines before it
-walk : (test : List Answered → Answered → Bool) (done rest : List Played)
-    → ((before : List Played) (t : Played) (behind : List Played) → before ++ t ∷ behind ≡ done ++ rest → test (map tell before) (tell t) ≡ true)
-    → each_after test (map tell done) (map tell rest) ≡ true
+-- an element is before one, or is that, or is behind it
+get-apart : {A : Type 0} (xs ys : List A) (y x : A) (i : ℕ) → slice_get (xs ++ y ∷ ys) i ≡ Some x → Among xs x ⊎ ((i ≡ length xs) × (y ≡ x)) ⊎ ((length xs < i) × Among ys x)
+get-apart [] ys y x zero e = let same : y ≡ x = cc in inr (inl (refl, same))
+get-apart [] ys y x (suc i) e = inr (inr (omega arith, among-get ys i x e))
+get-apart (z ∷ xs) ys y x zero e = let same : z ≡ x = cc in inl (inl same)
+get-apart (z ∷ xs) ys y x (suc i) e = elim (get-apart xs ys y x i e) [
+  | inl before ↦ inl (inr before)
+  | inr rest ↦ elim rest [
+    | inl here ↦ inr (inl (omega (arith, here.0), here.1))
+    | inr behind ↦ inr (inr (omega (arith, behind.0), behind.1))
+  ]
+]
+
+-- each row, between those of the lines before it and of those behind it
+walk : (test : List Answered → Answered → List Answered → Bool) (done rest : List Played)
+    → ((before : List Played) (t : Played) (behind : List Played) → before ++ t ∷ behind ≡ done ++ rest → test (map tell before) (tell t) (map tell behind) ≡ true)
+    → each_amid test (map tell done) (map tell rest) ≡ true
 walk test done [] f = refl
 walk test done (t ∷ rest) f =
-    and_from (test (map tell done) (tell t)) (each_after test (map tell done ++ tell t ∷ []) (map tell rest)) (f done t rest refl)
-    (subst (λ rows. each_after test rows (map tell rest) ≡ true) (map-append tell done (t ∷ []))
+    and_from (test (map tell done) (tell t) (map tell rest)) (each_amid test (map tell done ++ tell t ∷ []) (map tell rest)) (f done t rest refl)
+    (subst (λ rows. each_amid test rows (map tell rest) ≡ true) (map-append tell done (t ∷ []))
     (walk test (done ++ t ∷ []) rest (λ before u behind e. f before u behind (e ∙ append_assoc done (t ∷ []) rest))))
 
 module _ (played : List Played) (nodes : ℕ) (o : Told) (yard : Shown) (h : TrimsEnded played nodes o.chain yard.cells o.end) where
-  -- some node had reported no more before a line that trimmed
-  node-needs : (before behind : List Played) (t : Played) (d : ℕ) → before ++ t ∷ behind ≡ played → (k : LineTrimmed played nodes o.chain.trim (length before) t d)
-      → needs_above d (known_to (tell t) (map tell before)) k.node ≡ true
-  node-needs before behind t d whole k =
-      let rows = known_to (tell t) (map tell before) in
-      let all : AllByRecursion (TellsFor k.node d) rows =
-      all-filter tell (λ a. is_behind a (tell t)) (TellsFor k.node d) before
-      (all-places (λ (u : Played). is_behind (tell u) (tell t) ≡ true → TellsFor k.node d (tell u)) before (λ i u at is of_node.
-      k.told i u (subst (λ ts. slice_get ts i ≡ Some u) whole (get-front before (t ∷ behind) i u at)) (slice_get_within before i u at) of_node (behind-is (tell u) (tell t) is))) in
-      and_from (not (list_any (leaves k.node) rows)) (nat_le (most_reported k.node rows) d) (ap not (none-leaves k.node d rows all))
-      (le-leb (most_reported k.node rows) d (all-upto k.node d rows all))
+  -- before a line that trimmed some node hadn't left, and had reported no more
+  stays : (before behind : List Played) (t : Played) (d : ℕ) → before ++ t ∷ behind ≡ played → (k : LineTrimmed played nodes o.chain.trim (length before) t d)
+      → list_any (λ a. (a.line.node == k.node) && went_past d (tell t) a) (map tell before) ≡ false
+  stays before behind t d whole k =
+      none-passes tell (λ a. (a.line.node == k.node) && went_past d (tell t) a) before
+      (all-places (λ (u : Played). ((u.line.node == k.node) && went_past d (tell t) (tell u)) ≡ false) before (λ i u at.
+      fails-from ((u.line.node == k.node) && went_past d (tell t) (tell u)) (λ both.
+      let node = and_parts (u.line.node == k.node) (went_past d (tell t) (tell u)) both in
+      let past = and_parts (is_behind (tell u) (tell t)) (is_retired u.row.outcome || some_is (reported u.row.outcome) (nat_lt d)) node.1 in
+      let low = k.told i u (subst (λ ts. slice_get ts i ≡ Some u) whole (get-front before (t ∷ behind) i u at)) (slice_get_within before i u at) (eqb-true u.line.node k.node node.0) (behind-is (tell u) (tell t) past.0) in
+      both_ways (is_retired u.row.outcome || some_is (reported u.row.outcome) (nat_lt d)) (stays-by d u.row.outcome low) past.1)))
 
-  reaches : (before : List Played) (t : Played) (behind : List Played) → before ++ t ∷ behind ≡ played → reaches_a_report nodes (map tell before) (tell t) ≡ true
+  -- each node may have allowed it by then
+  module _ (before behind : List Played) (t : Played) (d : ℕ) (whole : before ++ t ∷ behind ≡ played) (node : ℕ) where
+    abbrev passes : Answered → Bool
+    passes a = (a.line.node == node) && may_allow d a
+
+    abbrev beside : Answered → Bool
+    beside a = not (is_behind (tell t) a)
+
+    how-so : (a : Asks) (o : Outcome) → (a ≡ asks.Admin Retire) ⊎ TellsFrom d a o → (asks_to_leave a || (some_is (reported o) (nat_le d) || (asks_to_report a && is_open o))) ≡ true
+    how-so a o (inl e) = or_left (asks_to_leave a) _ (ap asks_to_leave e)
+    how-so a o (inr h) = or_right (asks_to_leave a) _ (may-so d a o h)
+
+    node-allows : MayHaveAllowed played (length before) t d node → list_any passes (map tell before ++ filter beside (map tell behind)) ≡ true
+    node-allows m = any-among passes beside (map tell before) (map tell behind) ∙ by (get-apart before behind t u m.at (subst (λ ts. slice_get ts m.at ≡ Some u) (sym whole) m.is))
+      where
+        u : Played
+        u = m.turn
+
+        so : passes (tell u) ≡ true
+        so = and_from (u.line.node == node) (may_allow d (tell u)) (eq-eqb u.line.node node m.node_is) (how-so u.line.asks u.row.outcome m.how)
+
+        isnt-behind : length before < m.at → beside (tell u) ≡ true
+        isnt-behind high = ap not (fails-from (is_behind (tell t) (tell u)) (λ is. elim (behind-is (tell t) (tell u) is) [
+          | inl later ↦ let phase = m.phase in omega (arith, later, phase)
+          | inr same ↦ let low = m.own (sym same) in omega (arith, low, high)
+        ]))
+
+        by : Among before u ⊎ ((m.at ≡ length before) × (t ≡ u)) ⊎ ((length before < m.at) × Among behind u) → (list_any passes (map tell before) || list_any (λ a. beside a && passes a) (map tell behind)) ≡ true
+        by (inl first) = or_left (list_any passes (map tell before)) _ (any-at tell passes before u first so)
+        by (inr (inl here)) = let low = m.own (ap (λ (x : Played). x.line.node) (sym here.1)) in absurd (omega (arith, low, here.0))
+        by (inr (inr last)) =
+            or_right (list_any passes (map tell before)) _
+            (any-at tell (λ a. beside a && passes a) behind u last.1 (and_from (beside (tell u)) (passes (tell u)) (isnt-behind last.0) so))
+
+  reaches : (before : List Played) (t : Played) (behind : List Played) → before ++ t ∷ behind ≡ played → is_as_allowed nodes (map tell before) (tell t) (map tell behind) ≡ true
   reaches before t behind whole =
-      where_some-from (trimmed t.row.outcome) (λ d. list_any (needs_above d (known_to (tell t) (map tell before))) (numbers 1 nodes)) (λ d is.
+      where_some-from (trimmed t.row.outcome) (λ d. not (each_node nodes (went_past d (tell t)) (map tell before)) && ((d == 0) || each_node nodes (may_allow d) (map tell before ++ filter (λ a. not (is_behind (tell t) a)) (map tell behind)))) (λ d is.
       let here = subst (λ ts. slice_get ts (length before) ≡ Some t) whole (get-here before behind t) in
       let k = h.each (length before) t d here (is-trimmed t.row.outcome d is) in
       let least = k.least in
       let most = k.most in
-      any-number (needs_above d (known_to (tell t) (map tell before))) 1 nodes k.node least (omega (arith, most)) (node-needs before behind t d whole k))
+      and_from (not (each_node nodes (went_past d (tell t)) (map tell before))) ((d == 0) || each_node nodes (may_allow d) (map tell before ++ filter (λ a. not (is_behind (tell t) a)) (map tell behind)))
+      (fails-number (λ node. list_any (λ a. (a.line.node == node) && went_past d (tell t) a) (map tell before)) 1 nodes k.node least (omega (arith, most)) (stays before behind t d whole k))
+      (by d k (d == 0) refl))
+    where
+      by : (d : ℕ) → LineTrimmed played nodes o.chain.trim (length before) t d → (b : Bool) → (d == 0) ≡ b → ((d == 0) || each_node nodes (may_allow d) (map tell before ++ filter (λ a. not (is_behind (tell t) a)) (map tell behind))) ≡ true
+      by d k true e = or_left (d == 0) _ e
+      by d k false e =
+          or_right (d == 0) _
+          (all-numbers (λ node. list_any (λ a. (a.line.node == node) && may_allow d a) (map tell before ++ filter (λ a. not (is_behind (tell t) a)) (map tell behind))) 1 nodes (λ node low high.
+          elim (k.allowed node low (omega (arith, high))) [
+            | inl none ↦ absurd (both_ways (d == 0) e (eq-eqb d 0 none))
+            | inr m ↦ node-allows before behind t d whole node m
+          ]))
+
+  rises : (i j : ℕ) (t u : Played) → slice_get played i ≡ Some t → slice_get played j ≡ Some u → i < j → rises_to (tell t) (tell u) ≡ true
+  rises i j t u at there low =
+      implies-from (is_behind (tell t) (tell u)) _ (λ behind.
+      where_some-from (trimmed t.row.outcome) (λ d. where_some (trimmed u.row.outcome) (nat_le d)) (λ d is.
+      where_some-from (trimmed u.row.outcome) (nat_le d) (λ more also.
+      le-leb d more ((h.each j u more there (is-trimmed u.row.outcome more also)).rises i t d at low (behind-is (tell t) (tell u) behind) (is-trimmed t.row.outcome d is)))))
 
   upto-end : (i : ℕ) (t : Played) → slice_get played i ≡ Some t → is_upto o.chain.trim (tell t) ≡ true
   upto-end i t at =
@@ -191,107 +212,82 @@ module _ (played : List Played) (nodes : ℕ) (o : Told) (yard : Shown) (h : Tri
   abbrev items : List Placed
   items = items_of o.chain yard.cells
 
-  -- what a node reported is known, and it isn't to leave
-  known : (node : ℕ) → not (list_any (is_to_leave node) lines) ≡ true → not (list_any (leaves_open node) (map tell played)) ≡ true → IsKnown played node
-  known node keeps shuts = record {
-    stays = λ i t at of_node asked.
-        none-of (is_to_leave node) lines keeps t.line (among-map (λ (u : Played). u.line) played t (among-get played i t at))
-        (is-asked t.line.asks node t.line.node asks_to_leave of_node (ap asks_to_leave asked));
-    closed = λ i t at of_node asked. shut t (among-get played i t at) of_node asked (is_open t.row.outcome) refl;
-  }
+  -- a trim that stands in the log
+  asks-so : (trim : ℕ) → SaysTrim o.chain yard.cells trim → list_any (λ p. some_is (trim_asked p.content) (nat_le trim)) items ≡ true
+  asks-so trim k = says-some o.chain yard.cells trim (content.Trim k.position) (λ c. some_is (trim_asked c) (nat_le trim)) k.says (le-leb trim k.position k.above)
+
+  in-log : has_trim (map tell played) o.chain.trim items ≡ true
+  in-log = by (o.chain.trim == 0) refl
     where
-      shut : (t : Played) → Among played t → t.line.node ≡ node → t.line.asks ≡ asks.Admin Alive → (b : Bool) → is_open t.row.outcome ≡ b → b ≡ false
-      shut t m of_node asked false e = refl
-      shut t m of_node asked true e =
-          absurd (none-of (leaves_open node) (map tell played) shuts (tell t) (among-map tell played t m)
-          (and_from (is_to_report node t.line) (is_open t.row.outcome) (is-asked t.line.asks node t.line.node asks_to_report of_node (ap asks_to_report asked)) e))
+      by : (b : Bool) → (o.chain.trim == 0) ≡ b → has_trim (map tell played) o.chain.trim items ≡ true
+      by false e = implies-from (not (o.chain.trim == 0) || list_any (λ b. is_some (trimmed b.row.outcome)) (map tell played)) (list_any (λ p. some_is (trim_asked p.content) (nat_le o.chain.trim)) items) (λ is. asks-so o.chain.trim (h.rests (λ none. both_ways (o.chain.trim == 0) e (eq-eqb o.chain.trim 0 none))))
+      by true e =
+          let trim : o.chain.trim ≡ 0 = eqb-true o.chain.trim 0 e in
+          implies-from (not (o.chain.trim == 0) || list_any (λ b. is_some (trimmed b.row.outcome)) (map tell played)) (list_any (λ p. some_is (trim_asked p.content) (nat_le o.chain.trim)) items) (λ is.
+          let told : list_any (λ b. is_some (trimmed b.row.outcome)) (map tell played) ≡ true = subst (λ t. (not t || list_any (λ b. is_some (trimmed b.row.outcome)) (map tell played)) ≡ true) e is in
+          let x = any-mapped tell (λ b. is_some (trimmed b.row.outcome)) played told in
+          let at = among-at played x.0 x.1 in
+          let tells = tells_trim x.0.row.outcome x.2 in
+          asks-so o.chain.trim (subst (SaysTrim o.chain yard.cells) (sym trim) (h.stand at.0 x.0 tells.0 at.1 tells.1 trim)))
 
-  above-trim : (node : ℕ) → (o.chain.trim ≡ 0) ⊎ SomeTurn played (ReportsAbove node o.chain.trim) → nat_le o.chain.trim (most_reported node (map tell played)) ≡ true
-  above-trim node (inl none) = le-leb o.chain.trim (most_reported node (map tell played)) (omega (arith, none))
-  above-trim node (inr k) =
-      let r = k.so in
-      let reports : reported_by node (tell k.turn) ≡ Some r.clean =
-      ap (λ b. if b then reported k.turn.row.outcome else None) (eq-eqb k.turn.line.node node r.node_is) ∙ ap reported r.is in
-      let low = most-above node (map tell played) (tell k.turn) r.clean (among-map tell played k.turn (among-get played k.at k.turn k.is)) reports in
-      let above = r.above in
-      le-leb o.chain.trim (most_reported node (map tell played)) (omega (arith, low, above))
+  -- a node that reported so much
+  module _ (node : ℕ) (k : IsReported played o.chain yard.cells o.chain.trim node) where
+    abbrev one : Played
+    one = k.line.turn
 
-  holds : (node : ℕ) → 1 ≤ node → node < 1 + nodes → is_held lines (map tell played) o.chain.trim node ≡ true
-  holds node low high =
-      implies-from (not (list_any (is_to_leave node) lines) && not (list_any (leaves_open node) (map tell played))) (nat_le o.chain.trim (most_reported node (map tell played))) (λ both.
-      let parts = and_parts (not (list_any (is_to_leave node) lines)) (not (list_any (leaves_open node) (map tell played))) both in
-      above-trim node (h.reached node low (omega (arith, high)) (known node parts.0 parts.1)))
+    abbrev may : Bool
+    may = may_report o.chain.trim (tell one)
 
-  let-go : (node : ℕ) → SomeTurn played (LetsGo node) → is_to_let_go lines node ≡ true
-  let-go node k =
-      any-at (λ (t : Played). t.line) (λ l. is_to_report node l || is_to_leave node l) played k.turn (among-get played k.at k.turn k.is) (which k.so.kind)
-    where
-      which : (k.turn.line.asks ≡ asks.Admin Alive) ⊎ (k.turn.line.asks ≡ asks.Admin Retire) → (is_to_report node k.turn.line || is_to_leave node k.turn.line) ≡ true
-      which (inl e) = or_left (is_to_report node k.turn.line) (is_to_leave node k.turn.line) (is-asked k.turn.line.asks node k.turn.line.node asks_to_report k.so.node_is (ap asks_to_report e))
-      which (inr e) = or_right (is_to_report node k.turn.line) (is_to_leave node k.turn.line) (is-asked k.turn.line.asks node k.turn.line.node asks_to_leave k.so.node_is (ap asks_to_leave e))
+    abbrev says : Bool
+    says = list_any (λ p. some_is (report_of one.line.node p.content) (nat_le o.chain.trim)) items
 
-  abbrev some_trims : Bool
-  some_trims = list_any (λ l. asks_to_trim l.asks) lines
+    report-is : (other n : ℕ) (b : Bool) → (node == other) ≡ b → node ≡ other → o.chain.trim ≤ n → some_is (if node == other then Some n else None) (nat_le o.chain.trim) ≡ true
+    report-is other n b e same above = subst (λ t. some_is (if t then Some n else None) (nat_le o.chain.trim) ≡ true) (sym (eq-eqb node other same)) (le-leb o.chain.trim n above)
 
-  abbrev all_let_go : Bool
-  all_let_go = list_all (is_to_let_go lines) (numbers 1 nodes)
+    reported-so : is_reported o.chain.trim items (tell one) ≡ true
+    reported-so =
+        and_from may says (may-so o.chain.trim one.line.asks one.row.outcome k.line.so.tells)
+        (says-some o.chain yard.cells o.chain.trim (content.Alive node k.says.position) (λ c. some_is (report_of one.line.node c) (nat_le o.chain.trim)) k.says.says
+        (report-is one.line.node k.says.position (node == one.line.node) refl (sym k.line.so.node_is) k.says.above))
 
-  lines-ask : AsksForTrim played nodes → (some_trims && all_let_go) ≡ true
-  lines-ask a =
-      let k = a.trims in
-      and_from some_trims all_let_go (any-at (λ (t : Played). t.line) (λ l. asks_to_trim l.asks) played k.turn (among-get played k.at k.turn k.is) (ap asks_to_trim k.so))
-      (all-numbers (is_to_let_go lines) 1 nodes (λ node low high. let-go node (a.each node low (omega (arith, high)))))
+    one-among : Among played one
+    one-among = among-get played k.line.at one k.line.is
 
-  asked-for : (b : Bool) → (o.chain.trim == 0) ≡ b → is_asked_for lines nodes o.chain.trim ≡ true
-  asked-for true e = or_left (o.chain.trim == 0) (some_trims && all_let_go) e
-  asked-for false e = or_right (o.chain.trim == 0) (some_trims && all_let_go) (lines-ask (h.asked (λ none. both_ways (o.chain.trim == 0) e (eq-eqb o.chain.trim 0 none))))
+  some-reports : (node : ℕ) → IsReported played o.chain yard.cells o.chain.trim node → list_any (is_reported o.chain.trim items) (map tell played) ≡ true
+  some-reports node k = any-at tell (is_reported o.chain.trim items) played k.line.turn (one-among node k) (reported-so node k)
 
-  -- where nothing is trimmed, the log has that a trim was asked for
-  in-log : (i : ℕ) (t : Played) → slice_get played i ≡ Some t → has_trim o.chain.trim items (tell t) ≡ true
-  in-log i t at =
-      implies-from (is_some (trimmed t.row.outcome)) _ (λ is.
-      implies-from (o.chain.trim == 0) _ (λ none.
-      let trim : o.chain.trim ≡ 0 = eqb-true o.chain.trim 0 none in
-      let tells = tells_trim t.row.outcome is in
-      let stands = h.stand i t tells.0 at tells.1 trim in
-      says-some o.chain yard.cells 0 (content.Trim stands.position) (λ c. is_some (trim_asked c)) stands.says refl))
+  abbrev lets_go : Answered → Bool
+  lets_go a = asks_to_leave a.line.asks || is_reported o.chain.trim items a
 
-  -- where something is, the log has from there on that as much was asked for
-  abbrev some_asks : Bool
-  some_asks = list_any (λ p. asks_from o.chain.trim p.content) items
-
-  asks-so : SaysTrim o.chain yard.cells o.chain.trim → some_asks ≡ true
-  asks-so k = says-some o.chain yard.cells o.chain.trim (content.Trim k.position) (asks_from o.chain.trim) k.says (le-leb o.chain.trim k.position k.above)
-
-  -- and that each node reported as much that isn't to leave
-  goes-so : (node : ℕ) → SomeTurn played (IsToLeave node) ⊎ SaysReport o.chain yard.cells o.chain.trim node → lets_go lines o.chain.trim items node ≡ true
+  goes-so : (node : ℕ) → SomeTurn played (IsToLeave node) ⊎ IsReported played o.chain yard.cells o.chain.trim node → list_any (λ a. (a.line.node == node) && lets_go a) (map tell played) ≡ true
   goes-so node (inl k) =
-      or_left (list_any (is_to_leave node) lines) (list_any (λ p. reports_from node o.chain.trim p.content) items)
-      (any-at (λ (t : Played). t.line) (is_to_leave node) played k.turn (among-get played k.at k.turn k.is) (is-asked k.turn.line.asks node k.turn.line.node asks_to_leave k.so.node_is (ap asks_to_leave k.so.asks)))
+      any-at tell (λ a. (a.line.node == node) && lets_go a) played k.turn (among-get played k.at k.turn k.is)
+      (and_from (k.turn.line.node == node) (lets_go (tell k.turn)) (eq-eqb k.turn.line.node node k.so.node_is)
+      (or_left (asks_to_leave k.turn.line.asks) (is_reported o.chain.trim items (tell k.turn)) (ap asks_to_leave k.so.asks)))
   goes-so node (inr k) =
-      or_right (list_any (is_to_leave node) lines) (list_any (λ p. reports_from node o.chain.trim p.content) items)
-      (says-some o.chain yard.cells o.chain.trim (content.Alive node k.position) (reports_from node o.chain.trim) k.says (reports-so node k.position (node == node) refl (le-leb o.chain.trim k.position k.above)))
-    where
-      reports-so : (node position : ℕ) (b : Bool) → (node == node) ≡ b → nat_le o.chain.trim position ≡ true → some_is (if node == node then Some position else None) (nat_le o.chain.trim) ≡ true
-      reports-so node position b e above = subst (λ t. some_is (if t then Some position else None) (nat_le o.chain.trim) ≡ true) (sym (eq-eqb node node refl)) above
+      any-at tell (λ a. (a.line.node == node) && lets_go a) played k.line.turn (one-among node k)
+      (and_from (k.line.turn.line.node == node) (lets_go (tell k.line.turn)) (eq-eqb k.line.turn.line.node node k.line.so.node_is)
+      (or_right (asks_to_leave k.line.turn.line.asks) (is_reported o.chain.trim items (tell k.line.turn)) (reported-so node k)))
 
-  rests-so : (b : Bool) → (o.chain.trim == 0) ≡ b → rests_on_log lines nodes o.chain.trim items ≡ true
-  rests-so true e = or_left (o.chain.trim == 0) (some_asks && list_all (lets_go lines o.chain.trim items) (numbers 1 nodes)) e
-  rests-so false e =
+  allowed-so : (b : Bool) → (o.chain.trim == 0) ≡ b → is_allowed lines (map tell played) nodes o.chain.trim items ≡ true
+  allowed-so true e = or_left (o.chain.trim == 0) _ e
+  allowed-so false e =
       let some : o.chain.trim ≢ 0 = λ none. both_ways (o.chain.trim == 0) e (eq-eqb o.chain.trim 0 none) in
-      or_right (o.chain.trim == 0) (some_asks && list_all (lets_go lines o.chain.trim items) (numbers 1 nodes))
-      (and_from some_asks (list_all (lets_go lines o.chain.trim items) (numbers 1 nodes)) (asks-so (h.rests some))
-      (all-numbers (lets_go lines o.chain.trim items) 1 nodes (λ node low high. goes-so node (h.kept node low (omega (arith, high)) some))))
+      let k = h.asked some in
+      let r = h.some some in
+      or_right (o.chain.trim == 0) _
+      (and_from (list_any (λ l. asks_to_trim l.asks) lines) _ (any-at (λ (t : Played). t.line) (λ l. asks_to_trim l.asks) played k.turn (among-get played k.at k.turn k.is) (ap asks_to_trim k.so))
+      (and_from (list_any (is_reported o.chain.trim items) (map tell played)) (each_node nodes lets_go (map tell played)) (some-reports r.0 r.1)
+      (all-numbers (λ node. list_any (λ a. (a.line.node == node) && lets_go a) (map tell played)) 1 nodes (λ node low high. goes-so node (h.kept node low (omega (arith, high)) some)))))
 
   trims-stand_told : TrimsStand lines (map tell played) nodes o.chain.trim items o.end
   trims-stand_told = record {
     upto = all-test tell (is_upto o.chain.trim) played (all-places (λ (t : Played). is_upto o.chain.trim (tell t) ≡ true) played upto-end);
-    reach = walk (reaches_a_report nodes) [] played reaches;
-    held = all-numbers (is_held lines (map tell played) o.chain.trim) 1 nodes holds;
     within = h.within;
-    asked = asked-for (o.chain.trim == 0) refl;
-    stand = all-test tell (has_trim o.chain.trim items) played (all-places (λ (t : Played). has_trim o.chain.trim items (tell t) ≡ true) played in-log);
-    rests = rests-so (o.chain.trim == 0) refl;
+    each = walk (is_as_allowed nodes) [] played reaches;
+    rise = each_pair-from tell rises_to played (pairs-places (λ t u. rises_to (tell t) (tell u) ≡ true) played rises);
+    stand = in-log;
+    allowed = allowed-so (o.chain.trim == 0) refl;
   }
 
 pub trims-stand : (played : List Played) (o : Told) (yard : Shown) → RunEnded played o yard

@@ -1,5 +1,5 @@
 -- What is known of a run over nodes once it has ended: of the log, of each session, of each line, and of the faults.
-use Rattle.std.specs.Prelude.{◌≡◌, ℕ, ◌+◌, ◌<◌, ◌≤◌, ◌⊎◌, ◌≢◌, nat_lt, Bool, true, false, ◌&&◌, ◌==◌, List, [], ◌∷◌, ◌++◌, length, map, find, take, drop, count_by, min, Option, Some, None, IsSome, is_some, Contains, slice_get}
+use Rattle.std.specs.Prelude.{◌≡◌, ℕ, ◌+◌, ◌-◌, ◌<◌, ◌≤◌, ◌⊎◌, ◌≢◌, nat_lt, Bool, true, false, ◌&&◌, ◌==◌, List, [], ◌∷◌, ◌++◌, length, map, find, take, drop, count_by, min, Option, Some, None, IsSome, is_some, Contains, slice_get}
 use Rattle.std.specs.List.{AllByRecursion, list_any}
 use Rattle.std.specs.FinMap as finmap
 use Rattle.delos_types.specs.declared.entry.Entry.{Entry}
@@ -30,10 +30,11 @@ use Rattle.row_text.specs.declared.row.Row.{Row}
 use Rattle.row_text.specs.declared.row.Outcome.{Outcome}
 use Rattle.row_text.specs.declared.row.Outcome.TheVariants as out
 use Rattle.fitting_run.specs.declared.told.Told.{Told}
-use Rattle.fitting_run.specs.Answered.{is_open, session_asking}
+use Rattle.fitting_run.specs.Acts.{HoldsLines}
+use Rattle.fitting_run.specs.Answered.{session_asking}
 use Rattle.fitting_run.specs.Outcomes.{is_row_of}
 use Rattle.fitting_run.specs.Lines.{logs_for, are_ranked, are_in_phase}
-use Rattle.fitting_run.specs.Replacements.{version_told, begins_at}
+use Rattle.fitting_run.specs.Replacements.{version_told, begins_at, goes_by_ones}
 use Rattle.fitting_run.specs.Reports.{items_of}
 use Rattle.fitting_run.specs.Yard.{Shown}
 use Rattle.fitting_run.specs.Faults.{stands, lacks_of, faults_of, disk_faults, lacks_quorum, finds_full, lacks_register, lacks_store}
@@ -153,8 +154,8 @@ CameOf log tails faults ends before t (asks.Look s q) (out.Read after found) = H
 CameOf log tails faults ends before t (asks.Look s q) (out.Open cause) = IsUnread faults (ends s.id) before t s.id cause
 CameOf log tails faults ends before t (asks.Admin a) (out.Open cause) = t.paid ≡ Some cause
 CameOf log tails faults ends before t (asks.Admin Alive) (out.Alive clean) = HasReported log tails t.line.phase clean
--- what these rows say is said of all of them at once, below
-CameOf log tails faults ends before t (asks.Admin Extend) (out.Extended version start) = Unit {0}
+-- a segment begins at a tail of its phase; what else these rows say is said of all of them at once, below
+CameOf log tails faults ends before t (asks.Admin Extend) (out.Extended version start) = (tails t.line.phase ≤ start) × (start ≤ tails (t.line.phase + 1))
 CameOf log tails faults ends before t (asks.Admin Extend) (out.Moved version) = Unit {0}
 CameOf log tails faults ends before t (asks.Admin Extend) out.NoSpare = Unit {0}
 CameOf log tails faults ends before t (asks.Admin Trim) (out.Trimmed trim) = Unit {0}
@@ -228,9 +229,9 @@ IsReplaced version chain shelf (out.Moved v) = v ≤ version
 IsReplaced version chain shelf out.NoSpare = last_id chain + 1 ≡ shelf
 IsReplaced version chain shelf answered = Unit {0}
 
--- rows of any two lines
+-- rows of any two lines: the lower version begins no higher
 abbrev pub IsApart : Outcome → Outcome → Type 0
-IsApart (out.Extended v s) (out.Extended w r) = v ≢ w
+IsApart (out.Extended v s) (out.Extended w r) = ((v < w) × (s ≤ r)) ⊎ ((w < v) × (r ≤ s))
 IsApart answered other = Unit {0}
 
 -- rows of two lines, the first of an earlier phase than the other, or of an earlier line of the same node
@@ -259,15 +260,18 @@ pub record Replacements (played : List Played) (version : ℕ) (chain : Chain) (
   pub apart : (i j : ℕ) (t u : Played) → slice_get played i ≡ Some t → slice_get played j ≡ Some u → i < j → IsApart t.row.outcome u.row.outcome
   pub order : (i j : ℕ) (t u : Played) → slice_get played i ≡ Some t → slice_get played j ≡ Some u → i < j
       → (t.line.phase < u.line.phase) ⊎ (t.line.node ≡ u.line.node) → Precedes t.row.outcome u.row.outcome
+  -- each version is of one loglet more, or trimmed the log
+  pub counts : goes_by_ones version chain ≡ true
   -- what a line found another node had made, in the line's phase; the first chain nobody had
   pub found : (i : ℕ) (t : Played) (version : ℕ) → slice_get played i ≡ Some t → t.row.outcome ≡ out.Moved version → (2 ≤ version) × SomeTurn played (IsBeside t)
 
 -- Trims
 
--- what the row says stands at this position or above
+-- what the row says stands at this position or above; and what it reports is no less
 abbrev pub StandsFrom : ℕ → Outcome → Type 0
 StandsFrom n (out.Placed place reply late) = n ≤ place.pos
 StandsFrom n (out.Read after found) = n ≤ after
+StandsFrom n (out.Alive clean) = n ≤ clean
 StandsFrom n answered = Unit {0}
 
 -- the row isn't that of a node that left, and reports no more than this
@@ -276,8 +280,31 @@ TellsUpto trim (out.Alive clean) = clean ≤ trim
 TellsUpto trim out.Retired = ⊥
 TellsUpto trim answered = Unit {0}
 
+-- the line asks its node to report, and the row tells that it reported so much, or is open
+abbrev pub TellsFrom : ℕ → Asks → Outcome → Type 0
+TellsFrom n (asks.Admin Alive) (out.Alive clean) = n ≤ clean
+TellsFrom n (asks.Admin Alive) (out.Open cause) = Unit {0}
+TellsFrom n asked answered = ⊥
+
+-- .. of this node
+pub record MayReport (node n : ℕ) (t : Played) : Type 0 where
+  pub node_is : t.line.node ≡ node
+  pub tells : TellsFrom n t.line.asks t.row.outcome
+
+-- A line asks the node to leave, or had it report so much, as far as its row tells. It is behind the j-th, t, neither as a line of a later
+-- phase nor as a later line of the same node.
+pub record MayHaveAllowed (played : List Played) (j : ℕ) (t : Played) (trim node : ℕ) : Type 0 where
+  pub at : ℕ
+  pub turn : Played
+  pub is : slice_get played at ≡ Some turn
+  pub node_is : turn.line.node ≡ node
+  pub how : (turn.line.asks ≡ asks.Admin Retire) ⊎ TellsFrom trim turn.line.asks turn.row.outcome
+  pub phase : turn.line.phase ≤ t.line.phase
+  pub own : turn.line.node ≡ t.line.node → at < j
+
 -- The j-th line, t, trimmed the log so far: it is trimmed as far at the end; and some node hadn't left by its rows of earlier phases,
--- and of earlier lines if it is the node of t, and reported no more in them.
+-- and of earlier lines if it is the node of t, and reported no more in them. No trim of those lines went further; and each node may have
+-- allowed this one by then.
 pub record LineTrimmed (played : List Played) (nodes end_trim j : ℕ) (t : Played) (trim : ℕ) : Type 0 where
   pub upto : trim ≤ end_trim
   pub node : ℕ
@@ -285,28 +312,8 @@ pub record LineTrimmed (played : List Played) (nodes end_trim j : ℕ) (t : Play
   pub most : node ≤ nodes
   pub told : (i : ℕ) (u : Played) → slice_get played i ≡ Some u → i < j → u.line.node ≡ node → (u.line.phase < t.line.phase) ⊎ (u.line.node ≡ t.line.node)
       → TellsUpto trim u.row.outcome
-
--- it is the node that reported, so many entries at least
-pub record ReportsAbove (node trim : ℕ) (t : Played) : Type 0 where
-  pub node_is : t.line.node ≡ node
-  pub clean : ℕ
-  pub is : t.row.outcome ≡ out.Alive clean
-  pub above : trim ≤ clean
-
--- the line asks this node to report, or to leave
-pub record LetsGo (node : ℕ) (t : Played) : Type 0 where
-  pub node_is : t.line.node ≡ node
-  pub kind : (t.line.asks ≡ asks.Admin Alive) ⊎ (t.line.asks ≡ asks.Admin Retire)
-
--- where something is trimmed, a line asks for that, and each node is to report or to leave
-pub record AsksForTrim (played : List Played) (nodes : ℕ) : Type 0 where
-  pub trims : SomeTurn played (λ t. t.line.asks ≡ asks.Admin Trim)
-  pub each : (node : ℕ) → 1 ≤ node → node ≤ nodes → SomeTurn played (LetsGo node)
-
--- no line asks the node to leave, and none that asks it to report is open
-pub record IsKnown (played : List Played) (node : ℕ) : Type 0 where
-  pub stays : (i : ℕ) (t : Played) → slice_get played i ≡ Some t → t.line.node ≡ node → t.line.asks ≢ asks.Admin Retire
-  pub closed : (i : ℕ) (t : Played) → slice_get played i ≡ Some t → t.line.node ≡ node → t.line.asks ≡ asks.Admin Alive → is_open t.row.outcome ≡ false
+  pub rises : (i : ℕ) (u : Played) (less : ℕ) → slice_get played i ≡ Some u → i < j → (u.line.phase < t.line.phase) ⊎ (u.line.node ≡ t.line.node) → u.row.outcome ≡ out.Trimmed less → less ≤ trim
+  pub allowed : (k : ℕ) → 1 ≤ k → k ≤ nodes → (trim ≡ 0) ⊎ MayHaveAllowed played j t trim k
 
 -- the log that the loglets have says this, at this position or above, where it isn't trimmed
 pub record SaysFrom (chain : Chain) (cells : List LogletView) (from : ℕ) (c : Content) : Type 0 where
@@ -327,6 +334,11 @@ pub record SaysReport (chain : Chain) (cells : List LogletView) (trim node : ℕ
   pub above : trim ≤ position
   pub says : SaysFrom chain cells trim (content.Alive node position)
 
+-- a line had the node report so much, as far as its row tells, and the log says that it did
+pub record IsReported (played : List Played) (chain : Chain) (cells : List LogletView) (trim node : ℕ) : Type 0 where
+  pub line : SomeTurn played (MayReport node trim)
+  pub says : SaysReport chain cells trim node
+
 -- a line asks the node to leave
 pub record IsToLeave (node : ℕ) (t : Played) : Type 0 where
   pub node_is : t.line.node ≡ node
@@ -336,15 +348,16 @@ pub record IsToLeave (node : ℕ) (t : Played) : Type 0 where
 pub record TrimsEnded (played : List Played) (nodes : ℕ) (chain : Chain) (cells : List LogletView) (end : ℕ) : Type 0 where
   pub each : (j : ℕ) (t : Played) (trim : ℕ) → slice_get played j ≡ Some t → t.row.outcome ≡ out.Trimmed trim → LineTrimmed played nodes chain.trim j t trim
   pub within : chain.trim ≤ end
-  pub asked : chain.trim ≢ 0 → AsksForTrim played nodes
-  pub reached : (node : ℕ) → 1 ≤ node → node ≤ nodes → IsKnown played node → (chain.trim ≡ 0) ⊎ SomeTurn played (ReportsAbove node chain.trim)
   -- where nothing is trimmed, the log that the loglets have says that a trim was asked for
   pub stand : (j : ℕ) (t : Played) (trim : ℕ) → slice_get played j ≡ Some t → t.row.outcome ≡ out.Trimmed trim → chain.trim ≡ 0
       → SaysTrim chain cells 0
   -- where something is, the log that they have from there on says that as much was asked for
   pub rests : chain.trim ≢ 0 → SaysTrim chain cells chain.trim
-  -- and that each node reported as much that isn't to leave
-  pub kept : (node : ℕ) → 1 ≤ node → node ≤ nodes → chain.trim ≢ 0 → SomeTurn played (IsToLeave node) ⊎ SaysReport chain cells chain.trim node
+  -- by a line
+  pub asked : chain.trim ≢ 0 → SomeTurn played (λ t. t.line.asks ≡ asks.Admin Trim)
+  -- and that some node reported as much, and each that isn't to leave
+  pub some : chain.trim ≢ 0 → (node : ℕ) × IsReported played chain cells chain.trim node
+  pub kept : (node : ℕ) → 1 ≤ node → node ≤ nodes → chain.trim ≢ 0 → SomeTurn played (IsToLeave node) ⊎ IsReported played chain cells chain.trim node
 
 -- Faults
 
@@ -375,7 +388,8 @@ pub record FaultsCame (played : List Played) (faults : List Fault) (yard : Shown
   pub lacks : (cell : ℕ) → counted (lacks_quorum cell) played faults ≤ lacks_of (slice_get yard.cells cell)
   pub refusals : (cell : ℕ) → min (counted (finds_full cell) played faults) most_faults ≤ faults_of (slice_get yard.cells cell)
   pub register : min (counted lacks_register played faults) most_faults ≤ yard.register.faults
-  pub stores : (node : ℕ) → min (counted (lacks_store node) played faults) most_faults ≤ disk_faults yard.disks node
+  -- a store that fails is opened again: it is a cause where the disk fails once more then
+  pub stores : (node : ℕ) → min (counted (lacks_store node) played faults) (most_faults - 1) ≤ disk_faults yard.disks node - 1
 
 -- All of it
 
@@ -394,6 +408,8 @@ pub record RunEnded (played : List Played) (o : Told) (yard : Shown) : Type 0 wh
   pub at_home : AllByRecursion (λ t. IsAtHome home t.line.node t.line.asks) played
   pub rise : (phase : ℕ) → tails phase ≤ tails (phase + 1)
   pub stands : LogStands log o.chain yard.cells
+  -- each entry of the log, and of what the loglets have behind it, holds what lines ask of the node that proposed it
+  pub asked : AllByRecursion (HoldsLines (map (λ t. t.line) played)) (log ++ virtual_log o.chain yard.cells (length log) (virtual_tail o.chain yard.cells))
   -- each command in the log is a line's
   pub sent : (x : Asked) → Contains (asked_in 0 log) x → IsOfLine played x
   -- and where it stood there when a phase began, of an earlier phase
@@ -405,6 +421,9 @@ pub record RunEnded (played : List Played) (o : Told) (yard : Shown) : Type 0 wh
   pub left : (i : ℕ) (t : Played) → slice_get played i ≡ Some t → t.row.outcome ≡ out.Retired → o.chain.trim ≡ 0 → SaysFrom o.chain yard.cells 0 (content.Leave t.line.node)
   -- what a node's later lines tell stands at its report or above
   pub above : (i j : ℕ) (t u : Played) (clean : ℕ) → slice_get played i ≡ Some t → slice_get played j ≡ Some u → i < j → t.line.node ≡ u.line.node → t.row.outcome ≡ out.Alive clean → StandsFrom clean u.row.outcome
+  -- a node's later reads looked at no lower position
+  pub forward : (i j : ℕ) (t u : Played) (after later : ℕ) (found next : Found) → slice_get played i ≡ Some t → slice_get played j ≡ Some u → i < j → t.line.node ≡ u.line.node
+      → t.row.outcome ≡ out.Read after found → u.row.outcome ≡ out.Read later next → after ≤ later
   pub trims : TrimsEnded played (length yard.disks) o.chain yard.cells o.end
   pub sessions : (s : ℕ) → SessionEnded played faults home s (ends s)
   pub replacements : Replacements played o.version o.chain (length yard.cells)

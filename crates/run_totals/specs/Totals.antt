@@ -43,8 +43,10 @@ sum_of_table m = fold (λ s e. s +ℤ number_in e.1) (pos 0) (finmap.entries m)
 abbrev pub segments_in : Told → ℕ
 segments_in o = length o.chain.segments
 
+-- how many lines log a command; how many rows are placed; the sum of the numbers in the table after all of these, in the order of their
+-- places, and at one place of their ranks; and how many segments the chain has that was told
 abbrev pub totals_of : List NamedLine → Told → Totals
-totals_of lines o = record { commands = commands_in lines; acted = acted_in o.rows; sum = sum_of_table (table_told lines o); segments = segments_in o }
+totals_of lines o = record { commands = count_by (λ l. logs l.asks) lines; acted = count_by (λ r. is_placed r.outcome) o.rows; sum = sum_of_table (table_after finmap.empty (placed_acts (told_of lines o))); segments = length o.chain.segments }
 
 -- a line of the text: a label, a blank and a number
 abbrev pub total_line : Text → Text → Text

@@ -1,5 +1,5 @@
 use Rattle.std.proofs.Common.{◌≡◌, ◌++◌, drop}
-use Rattle.fitting_run.specs.Acts.{acts_from}
+use Rattle.fitting_run.specs.Turns.{acts_from}
 use Rattle.fitting_run.proofs.acting.acts_from.Given as goal
 
 abbrev pub invariant-loop-act : goal.invariant-loop-act

@@ -1,7 +1,7 @@
 use Rattle.std.proofs.Common.{◌≡◌, take, drop}
 use Rattle.std.specs.List.{list_any}
-use Rattle.fitting_run.specs.Faults.{picked, opens_other, same_turn}
-use Rattle.fitting_run.specs.Sorts.{comes_by}
+use Rattle.fitting_run.specs.Faults.{picked, same_turn}
+use Rattle.fitting_run.specs.Sorts.{comes_by, opens_other}
 use Rattle.fitting_run.proofs.counting.opens_in_turn.Given as goal
 
 abbrev pub invariant-loop-i : goal.invariant-loop-i

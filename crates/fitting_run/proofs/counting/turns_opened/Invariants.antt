@@ -1,6 +1,6 @@
 use Rattle.std.proofs.Common.{◌≡◌, ◌≤◌, ◌+◌, [], take, drop}
-use Rattle.fitting_run.specs.Faults.{picked, opens_other, turns_of}
-use Rattle.fitting_run.specs.Sorts.{comes_by}
+use Rattle.fitting_run.specs.Faults.{picked, turns_of}
+use Rattle.fitting_run.specs.Sorts.{comes_by, opens_other}
 use Rattle.fitting_run.proofs.counting.turns_opened.Given as goal
 
 abbrev pub invariant-loop-i : goal.invariant-loop-i

@@ -1,5 +1,5 @@
 use Rattle.std.proofs.Common.{◌≡◌, ◌≤◌, take}
-use Rattle.fitting_run.specs.Acts.{number_of}
+use Rattle.fitting_run.specs.Turns.{number_of}
 use Rattle.fitting_run.proofs.fitting.number_of.Given as goal
 
 abbrev pub invariant-loop-act : goal.invariant-loop-act

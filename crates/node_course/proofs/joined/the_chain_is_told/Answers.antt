@@ -1,4 +1,4 @@
-use Rattle.node_course.proofs.Segments.{each_told, all_segments, all_told}
+use Rattle.node_course.proofs.Segments.{all_counted, all_segments, all_told, each_told}
 use Rattle.node_course.proofs.joined.the_chain_is_told.Goals as goal
 
 pub returns-clause-each : goal.returns-clause-each
@@ -12,3 +12,7 @@ returns-clause-most g c = let p = g.P.Rules in λ lines home nodes run looks cou
 pub returns-clause-segments : goal.returns-clause-segments
 returns-clause-segments g c = let p = g.P.Rules in λ lines home nodes run looks courses join some none.
     all_segments p.law lines home nodes run looks courses join some none
+
+pub returns-clause-versions : goal.returns-clause-versions
+returns-clause-versions g c = let p = g.P.Rules in λ lines home nodes run looks courses join some.
+    all_counted p.law lines home nodes run looks courses join some

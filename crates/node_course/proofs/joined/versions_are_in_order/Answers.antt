@@ -1,4 +1,4 @@
-use Rattle.node_course.proofs.Versions.{passed_by, stands_now, versions_apart, versions_rise}
+use Rattle.node_course.proofs.Versions.{begins_in_phase, passed_by, stands_now, versions_apart, versions_rise}
 use Rattle.node_course.proofs.joined.versions_are_in_order.Goals as goal
 
 pub returns-clause-stand : goal.returns-clause-stand
@@ -16,3 +16,7 @@ returns-clause-rise g c = let p = g.P.Rules in λ lines home nodes run looks cou
 pub returns-clause-passed : goal.returns-clause-passed
 returns-clause-passed g c = let p = g.P.Rules in λ lines home nodes run looks courses n i l v are join come.
     passed_by p.law lines home nodes run looks courses are join n i l v come
+
+pub returns-clause-begins : goal.returns-clause-begins
+returns-clause-begins g c = let p = g.P.Rules in λ lines home nodes run looks courses n i l v start are join come.
+    begins_in_phase p.law lines home nodes run looks courses are join n i l v start come
