@@ -1,5 +1,5 @@
 //! A run over the shelf and the nodes that the words name.
-ghost use Rattle.std.specs.Prelude.{◌≡◌, ◌≤◌, ◌+◌, [], IfErr, IfOk, OnOk, None, Some, length, map, string_bytes};
+ghost use Rattle.std.specs.Prelude.{◌≡◌, ◌≢◌, ◌⊎◌, ◌≤◌, ◌+◌, [], ◌∷◌, ◌++◌, IfErr, IfOk, OnOk, None, Some, length, map, string_bytes};
 ghost use Rattle.std.specs.List.{AllByRecursion};
 ghost use Rattle.std.specs.Vec.{vec_capacity};
 ghost use Rattle.script_words.specs.Plans.{IsPlan, plan_of};
@@ -8,6 +8,8 @@ ghost use Rattle.shelf_loglets.specs.Shelf.{AreRooms, kind_for, servers_for, ser
 ghost use Rattle.shelf_loglets.specs.Stripes.{new_servers};
 ghost use Rattle.fitting_run.specs.Fresh.{five_kinds};
 ghost use Rattle.script_runner.specs.Fresh.{AreFresh, AreFreshNodes, shown};
+ghost use Rattle.register_api.specs.View.{IsFresh};
+ghost use Rattle.script_runner.specs.Ends.{TakesSource};
 ghost use Rattle.script_runner.specs.Standing.{HasEnded};
 ghost use Rattle.memory_runs.specs.Disks.{IsFreshDisk, IsUntouched};
 
@@ -23,7 +25,7 @@ use meta_register::MetaRegister;
 use node_opening::parts::NodeParts;
 use outside_ends::sink::Sink;
 use outside_ends::source::Source;
-use script_runner::ended::{End, Ended};
+use script_runner::ended::{End, Ended, Status};
 use script_runner::run::run_plan;
 use script_runner::yard::Yard;
 use script_words::plan::{Plan, WordsError, read_words};
@@ -133,6 +135,7 @@ pub fn add_node<E: Layers, D: Disk>(
     requires fresh { AreFreshNodes (λ k. E.kinds k.engines) (λ k. E.waiting k.engines) (λ k. D.view k.disk) nodes.old.items }
     ensures fresh { AreFreshNodes (λ k. E.kinds k.engines) (λ k. E.waiting k.engines) (λ k. D.view k.disk) nodes.new.items }
     ensures count { OnOk result (length nodes.new.items ≡ length nodes.old.items + 1) }
+    ensures disks { OnOk result (map (λ k. D.view k.disk) nodes.new.items ≡ map (λ k. D.view k.disk) nodes.old.items ++ D.view disk ∷ []) }
 {
     nodes.push(NodeParts {
         engines,
@@ -185,10 +188,13 @@ fn run_with<
     requires sound { (p : plans.Plan) → plan.now ≡ Some p → IsPlan p }
     requires loglets { (p : plans.Plan) → plan.now ≡ Some p → length shelf.items ≡ length p.shelf }
     requires as_many { (p : plans.Plan) → plan.now ≡ Some p → length nodes.items ≡ p.nodes }
-    ensures ended { IfOk result (λ ended. HasEnded S.left S.counted K.held K.counted plan.now source.old source.new sink.old sink.new (shown L.view (λ r. r.register) (λ d. (D.view d).faults) ended.shelf.items ended.register ended.disks.items) ended.end) }
+    ensures ended { IfOk result (λ ended. HasEnded plan.now (record { left = S.left source.old; missed = S.counted source.old; held = K.held sink.old; lost = K.counted sink.old }) (record { left = S.left source.new; missed = S.counted source.new; held = K.held sink.new; lost = K.counted sink.new }) (shown L.view (λ r. r.register) (λ d. (D.view d).faults) ended.shelf.items ended.register ended.disks.items) ended.end) }
     ensures kinds { IfOk result (λ ended. map (λ v. v.kind) (map L.view ended.shelf.items) ≡ map (λ v. v.kind) (map L.view shelf.items)) }
     ensures loglets { IfOk result (λ ended. length ended.shelf.items ≡ length shelf.items) }
     ensures disks { IfOk result (λ ended. length ended.disks.items ≡ length nodes.items) }
+    ensures untouched { IfOk result (λ ended. ended.end.told ≡ None → ended.end.status ≢ Status.Memory → (ended.shelf ≡ shelf) × (map (λ d. D.view d) ended.disks.items ≡ map (λ k. D.view k.disk) nodes.items) × IsFresh ended.register.register) }
+    ensures untaken { IfOk result (λ _. (TakesSource plan.now → ⊥) → source.new ≡ source.old) }
+    ensures silent { IfOk result (λ ended. (ended.end.status ≡ Status.SourceFault) ⊎ (ended.end.status ≡ Status.Memory) → sink.new ≡ sink.old) }
     ensures nothing { IfErr result (λ _. (sink.new ≡ sink.old) × (source.new ≡ source.old)) }
 {
     let register = fresh_register(alloc)?;
@@ -236,10 +242,13 @@ fn run_plan_over<
     requires loglets { (p : plans.Plan) → plan.now ≡ Some p → length shelf.items ≡ length p.shelf }
     requires as_many { (p : plans.Plan) → plan.now ≡ Some p → length disks.items ≡ p.nodes }
     requires fresh { AllByRecursion (λ d. IsFreshDisk (D.view d)) disks.items }
-    ensures ended { IfOk result (λ ended. HasEnded S.left S.counted K.held K.counted plan.now source.old source.new sink.old sink.new (shown L.view (λ r. r.register) (λ d. (D.view d).faults) ended.shelf.items ended.register ended.disks.items) ended.end) }
+    ensures ended { IfOk result (λ ended. HasEnded plan.now (record { left = S.left source.old; missed = S.counted source.old; held = K.held sink.old; lost = K.counted sink.old }) (record { left = S.left source.new; missed = S.counted source.new; held = K.held sink.new; lost = K.counted sink.new }) (shown L.view (λ r. r.register) (λ d. (D.view d).faults) ended.shelf.items ended.register ended.disks.items) ended.end) }
     ensures kinds { IfOk result (λ ended. map (λ v. v.kind) (map L.view ended.shelf.items) ≡ map (λ v. v.kind) (map L.view shelf.items)) }
     ensures loglets { IfOk result (λ ended. length ended.shelf.items ≡ length shelf.items) }
     ensures disks { IfOk result (λ ended. length ended.disks.items ≡ length disks.items) }
+    ensures untouched { IfOk result (λ ended. ended.end.told ≡ None → ended.end.status ≢ Status.Memory → (ended.shelf ≡ shelf) × (map (λ d. D.view d) ended.disks.items ≡ map (λ d. D.view d) disks.items) × IsFresh ended.register.register) }
+    ensures untaken { IfOk result (λ _. (TakesSource plan.now → ⊥) → source.new ≡ source.old) }
+    ensures silent { IfOk result (λ ended. (ended.end.status ≡ Status.SourceFault) ⊎ (ended.end.status ≡ Status.Memory) → sink.new ≡ sink.old) }
     ensures nothing { IfErr result (λ _. (sink.new ≡ sink.old) × (source.new ≡ source.old)) }
 {
     let count = disks.len();
@@ -283,10 +292,13 @@ pub fn run_over<
     requires nodes { AreFreshNodes (λ k. E.kinds k.engines) (λ k. E.waiting k.engines) (λ k. D.view k.disk) nodes.items }
     requires loglets { (plan : plans.Plan) → plan_of (map string_bytes words.now) ≡ Some plan → length shelf.items ≡ length plan.shelf }
     requires as_many { (plan : plans.Plan) → plan_of (map string_bytes words.now) ≡ Some plan → length nodes.items ≡ plan.nodes }
-    ensures ended { IfOk result (λ ended. HasEnded S.left S.counted K.held K.counted (plan_of (map string_bytes words.now)) source.old source.new sink.old sink.new (shown L.view (λ r. r.register) (λ d. (D.view d).faults) ended.shelf.items ended.register ended.disks.items) ended.end) }
+    ensures ended { IfOk result (λ ended. HasEnded (plan_of (map string_bytes words.now)) (record { left = S.left source.old; missed = S.counted source.old; held = K.held sink.old; lost = K.counted sink.old }) (record { left = S.left source.new; missed = S.counted source.new; held = K.held sink.new; lost = K.counted sink.new }) (shown L.view (λ r. r.register) (λ d. (D.view d).faults) ended.shelf.items ended.register ended.disks.items) ended.end) }
     ensures kinds { IfOk result (λ ended. map (λ v. v.kind) (map L.view ended.shelf.items) ≡ map (λ v. v.kind) (map L.view shelf.items)) }
     ensures loglets { IfOk result (λ ended. length ended.shelf.items ≡ length shelf.items) }
     ensures disks { IfOk result (λ ended. length ended.disks.items ≡ length nodes.items) }
+    ensures untouched { IfOk result (λ ended. ended.end.told ≡ None → ended.end.status ≢ Status.Memory → (ended.shelf ≡ shelf) × (map (λ d. D.view d) ended.disks.items ≡ map (λ k. D.view k.disk) nodes.items) × IsFresh ended.register.register) }
+    ensures untaken { IfOk result (λ _. (TakesSource (plan_of (map string_bytes words.now)) → ⊥) → source.new ≡ source.old) }
+    ensures silent { IfOk result (λ ended. (ended.end.status ≡ Status.SourceFault) ⊎ (ended.end.status ≡ Status.Memory) → sink.new ≡ sink.old) }
     ensures nothing { IfErr result (λ _. (sink.new ≡ sink.old) × (source.new ≡ source.old)) }
 {
     let plan = plan_in(alloc, words)?;
@@ -308,10 +320,13 @@ pub fn run_on<W: Threads + Wait + Sync, D: Disk + Send, S: Source, K: Sink, G: G
     requires rooms { AreRooms rooms }
     requires as_many { (plan : plans.Plan) → plan_of (map string_bytes words.now) ≡ Some plan → length disks.items ≡ plan.nodes }
     requires fresh { AllByRecursion (λ d. IsFreshDisk (D.view d)) disks.items }
-    ensures ended { IfOk result (λ ended. HasEnded S.left S.counted K.held K.counted (plan_of (map string_bytes words.now)) source.old source.new sink.old sink.new (shown view_of (λ r. r.register) (λ d. (D.view d).faults) ended.shelf.items ended.register ended.disks.items) ended.end) }
+    ensures ended { IfOk result (λ ended. HasEnded (plan_of (map string_bytes words.now)) (record { left = S.left source.old; missed = S.counted source.old; held = K.held sink.old; lost = K.counted sink.old }) (record { left = S.left source.new; missed = S.counted source.new; held = K.held sink.new; lost = K.counted sink.new }) (shown view_of (λ r. r.register) (λ d. (D.view d).faults) ended.shelf.items ended.register ended.disks.items) ended.end) }
     ensures kinds { (plan : plans.Plan) → plan_of (map string_bytes words.now) ≡ Some plan → IfOk result (λ ended. map (λ v. v.kind) (map view_of ended.shelf.items) ≡ map kind_for plan.shelf) }
     ensures loglets { (plan : plans.Plan) → plan_of (map string_bytes words.now) ≡ Some plan → IfOk result (λ ended. length ended.shelf.items ≡ length plan.shelf) }
     ensures disks { IfOk result (λ ended. length ended.disks.items ≡ length disks.items) }
+    ensures untouched { IfOk result (λ ended. ended.end.told ≡ None → ended.end.status ≢ Status.Memory → (AreFresh (map view_of ended.shelf.items)) × (map (λ d. D.view d) ended.disks.items ≡ map (λ d. D.view d) disks.items) × IsFresh ended.register.register) }
+    ensures untaken { IfOk result (λ _. (TakesSource (plan_of (map string_bytes words.now)) → ⊥) → source.new ≡ source.old) }
+    ensures silent { IfOk result (λ ended. (ended.end.status ≡ Status.SourceFault) ⊎ (ended.end.status ≡ Status.Memory) → sink.new ≡ sink.old) }
     ensures nothing { IfErr result (λ _. (sink.new ≡ sink.old) × (source.new ≡ source.old)) }
 {
     let plan = plan_in(alloc, words)?;
@@ -330,10 +345,13 @@ pub fn run_in_memory<W: Threads + Wait + Sync, S: Source, K: Sink, G: Gate + Syn
     gate: &G,
 ) -> Result<EndedOver<ShelfLoglet, MemDisk>, AllocError>
     requires { AreRooms rooms }
-    ensures ended { IfOk result (λ ended. HasEnded S.left S.counted K.held K.counted (plan_of (map string_bytes words.now)) source.old source.new sink.old sink.new (shown view_of (λ r. r.register) (λ d. d.faults) ended.shelf.items ended.register ended.disks.items) ended.end) }
+    ensures ended { IfOk result (λ ended. HasEnded (plan_of (map string_bytes words.now)) (record { left = S.left source.old; missed = S.counted source.old; held = K.held sink.old; lost = K.counted sink.old }) (record { left = S.left source.new; missed = S.counted source.new; held = K.held sink.new; lost = K.counted sink.new }) (shown view_of (λ r. r.register) (λ d. d.faults) ended.shelf.items ended.register ended.disks.items) ended.end) }
     ensures kinds { (plan : plans.Plan) → plan_of (map string_bytes words.now) ≡ Some plan → IfOk result (λ ended. map (λ v. v.kind) (map view_of ended.shelf.items) ≡ map kind_for plan.shelf) }
     ensures loglets { (plan : plans.Plan) → plan_of (map string_bytes words.now) ≡ Some plan → IfOk result (λ ended. length ended.shelf.items ≡ length plan.shelf) }
     ensures disks { (plan : plans.Plan) → plan_of (map string_bytes words.now) ≡ Some plan → IfOk result (λ ended. length ended.disks.items ≡ plan.nodes) }
+    ensures untouched { IfOk result (λ ended. ended.end.told ≡ None → ended.end.status ≢ Status.Memory → (AreFresh (map view_of ended.shelf.items)) × (AllByRecursion (λ d. IsUntouched d) ended.disks.items) × IsFresh ended.register.register) }
+    ensures untaken { IfOk result (λ _. (TakesSource (plan_of (map string_bytes words.now)) → ⊥) → source.new ≡ source.old) }
+    ensures silent { IfOk result (λ ended. (ended.end.status ≡ Status.SourceFault) ⊎ (ended.end.status ≡ Status.Memory) → sink.new ≡ sink.old) }
     ensures nothing { IfErr result (λ _. (sink.new ≡ sink.old) × (source.new ≡ source.old)) }
 {
     let plan = plan_in(alloc, words)?;

@@ -5,3 +5,4 @@ pub mod Outside
 pub mod Extending
 pub mod Made
 pub mod Standing
+pub mod Said

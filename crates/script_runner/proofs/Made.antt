@@ -12,14 +12,14 @@ use Rattle.chain_map.specs.Chain.{last_of_segments, last_id}
 use Rattle.table_core.specs.declared.command.Command.TheVariants.{Put, Del, Cas, Add}
 use Rattle.script_text.specs.declared.line.Admin.TheVariants.{Extend, Alive, Retire, Trim}
 use Rattle.script_text.specs.declared.asks.NamedLine.{NamedLine}
-use Rattle.script_text.specs.declared.script.BadLine.{BadLine}
+use Rattle.script_text.specs.declared.line.Line.{Line}
 use Rattle.script_text.specs.declared.asks.Asks.{Asks}
 use Rattle.script_text.specs.declared.asks.Asks.TheVariants as asks
 use Rattle.script_text.specs.Lines.{lines_of}
 use Rattle.script_words.specs.declared.plan.Plan.{Plan}
 use Rattle.script_words.specs.declared.plan.Task.{Task}
 use Rattle.script_words.specs.declared.plan.Task.TheVariants as task
-use Rattle.script_words.specs.Plans.{IsTask}
+use Rattle.script_words.specs.Plans.{IsPlan, IsTask}
 use Rattle.row_text.specs.declared.row.Row.{Row}
 use Rattle.row_text.specs.declared.row.Outcome.{Outcome}
 use Rattle.row_text.specs.declared.row.Outcome.TheVariants as out
@@ -28,21 +28,22 @@ use Rattle.fitting_run.specs.Tests.{◌⇒◌}
 use Rattle.fitting_run.specs.declared.answered.Answered.{Answered}
 use Rattle.fitting_run.specs.Answered.{logs, has_row}
 use Rattle.fitting_run.specs.Outcomes.{answers, is_row_of}
-use Rattle.engine_api.specs.Order.{numbers}
-use Rattle.fitting_run.specs.Trims.{asks_to_trim, is_asked_for, is_to_let_go}
+use Rattle.engine_api.specs.declared.content.Placed.{Placed}
+use Rattle.fitting_run.specs.Trims.{asks_to_trim, each_node, is_allowed, is_reported}
 use Rattle.fitting_run.specs.Replacements.{version_told, versions_at, has_ids, lacks_spare, is_spent}
 use Rattle.fitting_run.specs.Calm.{IsCalm, is_answered, all_answered}
 use Rattle.fitting_run.specs.Yard.{Shown}
-use Rattle.fitting_run.specs.Fits.{Fits}
+use Rattle.fitting_run.specs.Fits.{Fits, told_of}
+use Rattle.fitting_run.specs.Lines.{asks_to_leave}
+use Rattle.fitting_run.specs.Reports.{items_of}
 use Rattle.made_script.specs.Made.{made_lines}
 use Rattle.made_script.specs.Asked.{logs_something, extends, asks_to_extend, added, added_by, AddsOrExtends}
-use Rattle.run_totals.specs.Totals.{commands_in, acted_in}
+use Rattle.run_totals.specs.Totals.{commands_in, acted_in, totals_of}
 use Rattle.run_totals.specs.Adds.{amounts_in, amount_asked, AsksSmallAdd, AreSmallAdds}
 use Rattle.crew_run.specs.Telling.{GoesByRows}
-use Rattle.script_runner.specs.declared.ended.Status.{Status}
-use Rattle.script_runner.specs.declared.ended.Status.TheVariants as status
-use Rattle.script_runner.specs.Ends.{Ran, ComesFrom, any_open, Composes}
-use Rattle.script_runner.specs.Made.{CountsMade, lines_made}
+use Rattle.crew_run.specs.Running.{RunTold}
+use Rattle.script_runner.specs.Ends.{ComesFrom}
+use Rattle.script_runner.specs.Made.{CountsMade, any_open}
 use Rattle.made_script.proofs.Asking.{count-logged, count-extends, sum-added, all-made}
 use Rattle.run_totals.proofs.Whole.{answered-acts}
 use Rattle.run_totals.proofs.Amounts.{whole-sum}
@@ -317,22 +318,26 @@ none_trims [] h = refl
 none_trims (l ∷ ls) h = rw (no_trim l.asks h.0) (none_trims ls h.1)
 
 -- so nothing is trimmed
-untrimmed : (lines : List NamedLine) (nodes trim : ℕ) → AllByRecursion (λ l. AddsOrExtends l.asks) lines → is_asked_for lines nodes trim ≡ true → trim ≡ 0
-untrimmed lines nodes trim each asked = by (trim == 0) refl
+unasked : (lines : List NamedLine) (trim : ℕ) (reported : Bool) → AllByRecursion (λ l. AddsOrExtends l.asks) lines → ((trim == 0) || (list_any (λ l. asks_to_trim l.asks) lines && reported)) ≡ true → trim ≡ 0
+unasked lines trim reported each asked = by (trim == 0) refl
   where
     by : (b : Bool) → (trim == 0) ≡ b → trim ≡ 0
     by true is = grind (arith, nat_tests, is)
     by false is =
-        let some : (false || (list_any (λ l. asks_to_trim l.asks) lines && list_all (is_to_let_go lines) (numbers 1 nodes))) ≡ true = subst (λ b. (b || (list_any (λ l. asks_to_trim l.asks) lines && list_all (is_to_let_go lines) (numbers 1 nodes))) ≡ true) is asked in
-        let parts = and_parts (list_any (λ l. asks_to_trim l.asks) lines) (list_all (is_to_let_go lines) (numbers 1 nodes)) some in
+        let some : (false || (list_any (λ l. asks_to_trim l.asks) lines && reported)) ≡ true = subst (λ b. (b || (list_any (λ l. asks_to_trim l.asks) lines && reported)) ≡ true) is asked in
+        let parts = and_parts (list_any (λ l. asks_to_trim l.asks) lines) reported some in
         let none = none_trims lines each in
         absurd (let t : true ≡ false = sym parts.0 ∙ none in cc)
+
+untrimmed : (lines : List NamedLine) (told : List Answered) (nodes trim : ℕ) (items : List Placed) → AllByRecursion (λ l. AddsOrExtends l.asks) lines → is_allowed lines told nodes trim items ≡ true → trim ≡ 0
+untrimmed lines told nodes trim items each asked =
+    unasked lines trim (list_any (is_reported trim items) told && each_node nodes (λ a. asks_to_leave a.line.asks || is_reported trim items a) told) each asked
 
 -- where every line has its own answer, each line that extends the chain did, until the shelf had no loglet left
 segments_made : (lines : List NamedLine) (told : Told) (yard : Shown) (shelf : ℕ) → AllByRecursion (λ l. AddsOrExtends l.asks) lines → AllByRecursion IsOfFirst lines → length yard.cells ≡ shelf → Fits lines told yard → all_answered told.rows ≡ true
     → GoesByRows told.chain told.rows → All (λ s. s.id < length yard.cells) told.chain.segments → length told.chain.segments ≡ min shelf (1 + count_by extends lines)
 segments_made lines told yard shelf each first cells fits own goes within =
-    let grown = goes.segments (untrimmed lines (length yard.disks) told.chain.trim each fits.trims.asked) in
+    let grown = goes.segments (untrimmed lines (told_of lines told) (length yard.disks) told.chain.trim (items_of told.chain yard.cells) each fits.trims.allowed) in
     let size : length told.rows ≡ length lines = fits.one_row_each.as_many ∙ ap length (every_row lines) in
     let kinds : list_all is_row_of (pairs lines told.rows) ≡ true = subst (λ (ls : List NamedLine). list_all is_row_of (pairs ls told.rows) ≡ true) (every_row lines) fits.one_row_each.each in
     let full : list_all (is_spent told.chain (length yard.cells)) (pairs lines told.rows) ≡ true =
@@ -348,8 +353,12 @@ segments_made lines told yard shelf each first cells fits own goes within =
 
 -- All of it
 
+-- the lines of the script of so many commands that is made by the plan
+abbrev lines_made : Plan → ℕ → List NamedLine
+lines_made plan count = lines_of (made_lines plan.seed count plan.nodes)
+
 counts_lines : (plan : Plan) (count : ℕ) (yard : Shown) (told : Told) → count ≤ 15000 → Fits (lines_made plan count) told yard
-    → (IsCalm yard → length told.chain.segments ≡ min (length plan.shelf) (1 + count_by extends (lines_made plan count))) → CountsMade plan count yard told
+    → (IsCalm yard → length told.chain.segments ≡ min (length plan.shelf) (1 + count_by extends (lines_made plan count))) → CountsMade plan count yard told (totals_of (lines_made plan count) told)
 counts_lines plan count yard told few fits grown =
     let lines = lines_made plan count in
     let each = all_from (λ (l : NamedLine). AddsOrExtends l.asks) lines (all-made plan.seed count plan.nodes) in
@@ -364,28 +373,14 @@ counts_lines plan count yard told few fits grown =
     }
 
 -- of a run of what was made
-counts_made : (plan : Plan) (count : ℕ) (left : Option (List ℕ)) (yard : Shown) (told : Told) → plan.task ≡ task.Make count → Ran plan left yard told → CountsMade plan count yard told
-counts_made plan count left yard told make ran =
-    let comes = subst (λ (t : Task). ComesFrom t plan left ran.bytes ran.script) make ran.comes in
-    let few = subst IsTask make ran.plan_is.task in
-    let lines : lines_of ran.script ≡ lines_made plan count = ap lines_of comes.1 in
-    counts_lines plan count yard told few.1 (subst (λ ls. Fits ls told yard) lines ran.fits)
-    (λ calm. segments_made (lines_of ran.script) told yard (length plan.shelf) (subst (AllByRecursion (λ (l : NamedLine). AddsOrExtends l.asks)) (sym lines) (all_from (λ (l : NamedLine). AddsOrExtends l.asks) (lines_made plan count) (all-made plan.seed count plan.nodes)))
-    (subst (AllByRecursion IsOfFirst) (sym lines) (all_from IsOfFirst (lines_made plan count) (all-first plan.seed count plan.nodes))) ran.shelf ran.fits (ran.answered calm) (ran.extended calm) ran.shelved
-    ∙ ap (λ ls. min (length plan.shelf) (1 + count_by extends ls)) lines)
-
-of_plan : (plan : Plan) (left : Option (List ℕ)) (yard : Shown) (told : Told) → Ran plan left yard told → (p : Plan) (count : ℕ) → Some plan ≡ Some p → p.task ≡ task.Make count → CountsMade p count yard told
-of_plan plan left yard told ran p count same make =
-    counts_made p count left yard told make (subst (λ (q : Plan). Ran q left yard told) (the_same plan p same) ran)
-  where
-    the_same : (x y : Plan) → Some x ≡ Some y → x ≡ y
-    the_same x y e = cc
-
--- of what was composed
-pub counts_composed : (plan : Option Plan) (left : Option (List ℕ)) (yard : Shown) (end : Status) (told : Option Told) (refused : Option BadLine) (text : List ℕ)
-    → Composes plan left yard end told refused text → IfSome told (λ t. (p : Plan) (count : ℕ) → plan ≡ Some p → p.task ≡ task.Make count → CountsMade p count yard t)
-counts_composed (Some plan) left yard status.Done (Some told) None text h = of_plan plan left yard told h.0
-counts_composed (Some plan) left yard status.Open (Some told) None text h = of_plan plan left yard told h.0
-counts_composed (Some plan) left yard status.BadLine None (Some bad) text h = tt
-counts_composed None left yard status.BadWords None None text h = tt
-counts_composed plan left yard end told refused text h = absurd h
+pub counts_made : (plan : Plan) (count : ℕ) (left : Option (List ℕ)) (yard : Shown) (told : Told) (script : List Line) → IsPlan plan → plan.task ≡ task.Make count → ComesFrom plan.task plan left script
+    → length yard.cells ≡ length plan.shelf → RunTold (lines_of script) yard told → CountsMade plan count yard told (totals_of (lines_of script) told)
+counts_made plan count left yard told script sound make comes shelf ran =
+    let is : script ≡ made_lines plan.seed count plan.nodes = subst (λ (t : Task). ComesFrom t plan left script) make comes in
+    let few = subst IsTask make sound.task in
+    let lines : lines_of script ≡ lines_made plan count = ap lines_of is in
+    subst (λ ls. CountsMade plan count yard told (totals_of ls told)) (sym lines)
+    (counts_lines plan count yard told few.1 (subst (λ ls. Fits ls told yard) lines ran.fits)
+    (λ calm. segments_made (lines_of script) told yard (length plan.shelf) (subst (AllByRecursion (λ (l : NamedLine). AddsOrExtends l.asks)) (sym lines) (all_from (λ (l : NamedLine). AddsOrExtends l.asks) (lines_made plan count) (all-made plan.seed count plan.nodes)))
+    (subst (AllByRecursion IsOfFirst) (sym lines) (all_from IsOfFirst (lines_made plan count) (all-first plan.seed count plan.nodes))) shelf ran.fits (ran.answered calm) (ran.extended calm) ran.shelved
+    ∙ ap (λ ls. min (length plan.shelf) (1 + count_by extends ls)) lines))

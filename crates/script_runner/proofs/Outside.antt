@@ -16,6 +16,7 @@ use Rattle.script_text.specs.Refusal.{refusal_text}
 use Rattle.script_text.specs.Script.{script_of, ReadsScript}
 use Rattle.script_text.specs.Spelling.{IsScript}
 use Rattle.script_words.specs.declared.plan.Plan.{Plan}
+use Rattle.script_words.specs.declared.plan.Task.{Task}
 use Rattle.script_words.specs.declared.plan.Task.TheVariants as task
 use Rattle.script_words.specs.Plans.{bad_words_text}
 use Rattle.fitting_run.specs.declared.told.Told.{Told}
@@ -24,7 +25,7 @@ use Rattle.script_runner.specs.declared.compose.Composed.{Composed}
 use Rattle.script_runner.specs.declared.compose.Failure.{Failure}
 use Rattle.script_runner.specs.declared.lines.NoLines.{NoLines}
 use Rattle.script_runner.specs.declared.lines.NoLines.TheVariants as none
-use Rattle.script_runner.specs.Lines.{AreLinesFor}
+use Rattle.script_runner.specs.Lines.{AreLinesFor, TakenFrom}
 use Rattle.script_runner.specs.Unread.{unparsed}
 use Rattle.crew_run.specs.Running.{RunTold}
 use Rattle.script_runner.specs.Composed.{ComposesRun, IsComposed, Tells, status_of}
@@ -36,7 +37,10 @@ use Rattle.fitting_run.specs.Answered.{is_open}
 use Rattle.fitting_run.specs.Yard.{Shown}
 use Rattle.fitting_run.specs.Calm.{IsCalm, is_answered, all_answered}
 use Rattle.script_runner.specs.declared.ended.End.{End}
-use Rattle.script_runner.specs.Ends.{IsPlan, Ran, ComesFrom, IsRefused, read_limit, any_open, Composes}
+use Rattle.script_runner.specs.Ends.{IsPlan, Ran, ComesFrom, IsRefused, read_limit, Composes}
+use Rattle.script_runner.specs.Made.{any_open}
+use Rattle.script_text.proofs.Again.{script_again}
+use Rattle.script_runner.proofs.Made.{counts_made}
 
 front_of : (limit : ℕ) (all bytes : List ℕ) (after : Option (List ℕ)) → length bytes ≡ limit → LeavesBehind all after bytes → bytes ≡ take limit all
 front_of limit all bytes None len h = absurd h
@@ -72,30 +76,40 @@ refused-read plan left after bytes bad run came within read = record { read = ru
 pub composes-refusal : (plan : Plan) (left : Option (List ℕ)) (yard : Shown) (c : Composed) (bad : BadLine)
     → IsRefused plan left bad → (c.end ≡ record { status = status.BadLine; told = None; refused = Some bad }) × (c.text ≡ refusal_text bad) → IsComposed (Some plan) left yard c
 composes-refusal plan left yard c bad refused is =
-    subst (λ (e : End). Composes (Some plan) left yard e.status e.told e.refused c.text) (sym is.0) (refused, is.1)
+    subst (λ (e : End). Composes (Some plan) left yard e.status e.told e.refused c.text) (sym is.0) (refused, is.1, refl)
 
-composes-script : (plan : Plan) (left : Option (List ℕ)) (yard : Shown) (c : Composed) (bytes : List ℕ) (script : List Line)
-    → IsPlan plan → ComesFrom plan.task plan left bytes script → IsScript plan.nodes bytes script → ComposesRun plan script yard c → IsComposed (Some plan) left yard c
-composes-script plan left yard c bytes script sound comes read run = decide (any_open run.told.rows) refl
+-- what was taken and spells a script is what the script comes from
+pub comes-from : (t : Task) (plan : Plan) (left : Option (List ℕ)) (bytes : List ℕ) (script : List Line) → plan.nodes ≤ 8 → TakenFrom t plan left bytes script → IsScript plan.nodes bytes script → ComesFrom t plan left script
+comes-from task.Run plan left bytes script low taken spelled = (bytes, taken, script_again plan.nodes bytes script low spelled)
+comes-from (task.Make count) plan left bytes script low taken spelled = taken.1
+
+composes-script : (plan : Plan) (left : Option (List ℕ)) (yard : Shown) (c : Composed) (script : List Line)
+    → IsPlan plan → ComesFrom plan.task plan left script → ComposesRun plan script yard c → IsComposed (Some plan) left yard c
+composes-script plan left yard c script sound comes run =
+    subst (λ (e : End). Composes (Some plan) left yard e.status e.told e.refused c.text) (sym run.tells.is) (ran, run.tells.text, refl)
   where
     ran : Ran plan left yard run.told
-    ran = record { plan_is = sound; bytes = bytes; script = script; comes = comes; spelled = read; fits = run.ran.fits; answered = run.ran.answered; whole = run.ran.whole; extended = run.ran.extended; shelved = run.ran.shelved; shelf = run.shelf }
+    ran = record {
+      plan_is = sound;
+      script = script;
+      comes = comes;
+      fits = run.ran.fits;
+      made = λ count make. counts_made plan count left yard run.told script sound make comes run.shelf run.ran;
+      answered = run.ran.answered;
+      whole = run.ran.whole;
+      extended = run.ran.extended;
+      shelved = run.ran.shelved;
+      shelf = run.shelf;
+    }
 
-    -- it ended with this status
-    ends : (s : Status) → status_of run.told ≡ s → c.end ≡ record { status = s; told = Some run.told; refused = None }
-    ends s is = run.tells.is ∙ ap (λ (x : Status). record { status = x; told = Some run.told; refused = None }) is
-
-    composed : (s : Status) → status_of run.told ≡ s → Composes (Some plan) left yard s (Some run.told) None c.text → IsComposed (Some plan) left yard c
-    composed s is h = subst (λ (e : End). Composes (Some plan) left yard e.status e.told e.refused c.text) (sym (ends s is)) h
-
-    decide : (b : Bool) → any_open run.told.rows ≡ b → IsComposed (Some plan) left yard c
-    decide true e = composed status.Open (ap (λ (b : Bool). if b then status.Open else status.Done) e) (ran, run.tells.text, e)
-    decide false e = composed status.Done (ap (λ (b : Bool). if b then status.Open else status.Done) e) (ran, run.tells.text, e)
+-- a plan's lines are of a script
+pub has-script : (plan : Plan) (left : Option (List ℕ)) (lines : List NamedLine) → IsPlan plan → AreLinesFor plan left lines → (script : List Line) × ComesFrom plan.task plan left script
+has-script plan left lines sound asked = (asked.script, comes-from plan.task plan left asked.bytes asked.script sound.nodes.1 asked.comes asked.spelled)
 
 -- what the lines that a plan asks for told is composed
 pub composes-lines : (plan : Plan) (left : Option (List ℕ)) (yard : Shown) (c : Composed) (lines : List NamedLine)
     → IsPlan plan → (asked : AreLinesFor plan left lines) → ComposesRun plan asked.script yard c → IsComposed (Some plan) left yard c
-composes-lines plan left yard c lines sound asked run = composes-script plan left yard c asked.bytes asked.script sound asked.comes asked.spelled run
+composes-lines plan left yard c lines sound asked run = composes-script plan left yard c asked.script sound (comes-from plan.task plan left asked.bytes asked.script sound.nodes.1 asked.comes asked.spelled) run
 
 -- what is read of a spelled script is that script
 pub read-same : (lines script : List Line) → ReadsScript (Ok script) (Ok lines) → script ≡ lines
@@ -120,13 +134,10 @@ none-open (r ∷ rs) e = let k = and_parts (is_answered r.outcome) (all_answered
 -- where nothing was counted no row is open
 pub calm-closed : (plan : Option Plan) (left : Option (List ℕ)) (yard : Shown) (end : Status) (told : Option Told) (refused : Option BadLine) (text : List ℕ)
     → Composes plan left yard end told refused text → IsCalm yard → end ≡ status.Open → ⊥
-calm-closed (Some plan) left yard status.Done (Some told) None text h calm e = cc
-calm-closed (Some plan) left yard status.Open (Some told) None text h calm e = false_true (sym (none-open told.rows (h.0.answered calm)) ∙ h.2)
-  where
-    false_true : false ≡ true → ⊥
-    false_true e = cc
-calm-closed (Some plan) left yard status.BadLine None (Some bad) text h calm e = cc
-calm-closed None left yard status.BadWords None None text h calm e = cc
+calm-closed (Some plan) left yard end (Some told) None text h calm e =
+    let done : status.Open ≡ status.Done = sym e ∙ (h.2 ∙ ap (λ (b : Bool). if b then status.Open else status.Done) (none-open told.rows (h.0.answered calm))) in cc
+calm-closed (Some plan) left yard end None (Some bad) text h calm e = let other : status.Open ≡ status.BadLine = sym e ∙ h.2 in cc
+calm-closed None left yard end None None text h calm e = let other : status.Open ≡ status.BadWords = sym e ∙ h.1 in cc
 calm-closed plan left yard end told refused text h calm e = absurd h
 
 -- what a script told is composed of it, if memory sufficed
@@ -149,22 +160,20 @@ composes-told plan script lines yard (Ok c) (Ok t) same size tells some ran = re
 pub composes-bad : (plan : Option Plan) (left : Option (List ℕ)) (yard : Shown) (c : Composed) → plan ≡ None
     → (c.end ≡ record { status = status.BadWords; told = None; refused = None }) × (c.text ≡ bad_words_text) → IsComposed plan left yard c
 composes-bad plan left yard c none is =
-    subst (λ (o : Option Plan). IsComposed o left yard c) (sym none) (subst (λ (e : End). Composes None left yard e.status e.told e.refused c.text) (sym is.0) is.1)
+    subst (λ (o : Option Plan). IsComposed o left yard c) (sym none) (subst (λ (e : End). Composes None left yard e.status e.told e.refused c.text) (sym is.0) (is.1, refl))
 
 -- what is told is a run of the plan
 pub told-composed : (plan : Option Plan) (left : Option (List ℕ)) (yard : Shown) (end : Status) (told : Option Told) (refused : Option BadLine) (text : List ℕ)
     → Composes plan left yard end told refused text → IfSome told (λ t. IsSomeAnd plan (λ p. Ran p left yard t))
-told-composed (Some plan) left yard status.Done (Some told) None text h = h.0
-told-composed (Some plan) left yard status.Open (Some told) None text h = h.0
-told-composed (Some plan) left yard status.BadLine None (Some bad) text h = tt
-told-composed None left yard status.BadWords None None text h = tt
+told-composed (Some plan) left yard end (Some told) None text h = h.0
+told-composed (Some plan) left yard end None (Some bad) text h = tt
+told-composed None left yard end None None text h = tt
 told-composed plan left yard end told refused text h = absurd h
 
 -- a line that is named is one for which the plan refuses the source
 pub refused-composed : (plan : Option Plan) (left : Option (List ℕ)) (yard : Shown) (end : Status) (told : Option Told) (refused : Option BadLine) (text : List ℕ)
     → Composes plan left yard end told refused text → IfSome refused (λ bad. IsSomeAnd plan (λ p. IsRefused p left bad))
-refused-composed (Some plan) left yard status.Done (Some told) None text h = tt
-refused-composed (Some plan) left yard status.Open (Some told) None text h = tt
-refused-composed (Some plan) left yard status.BadLine None (Some bad) text h = h.0
-refused-composed None left yard status.BadWords None None text h = tt
+refused-composed (Some plan) left yard end (Some told) None text h = tt
+refused-composed (Some plan) left yard end None (Some bad) text h = h.0
+refused-composed None left yard end None None text h = tt
 refused-composed plan left yard end told refused text h = absurd h

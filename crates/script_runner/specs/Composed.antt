@@ -10,7 +10,8 @@ use Rattle.script_runner.specs.declared.ended.Status.TheVariants as status
 use Rattle.script_runner.specs.declared.compose.Composed.{Composed}
 use Rattle.crew_run.specs.Running.{RunTold}
 use Rattle.fitting_run.specs.Yard.{Shown}
-use Rattle.script_runner.specs.Ends.{Composes, any_open, text_of}
+use Rattle.script_runner.specs.Ends.{Composes, text_of}
+use Rattle.script_runner.specs.Made.{any_open}
 
 -- the status that a run's text has once it is put whole
 abbrev pub status_of : Told → Status

@@ -25,6 +25,6 @@ AreFreshNodes kinds waiting disk parts = AllByRecursion (λ k. IsFreshNode (kind
 pub record IsFreshFor {K : Type 0} (kinds : K → List ℕ) (waiting : K → List Item) (disk : K → DiskView) (plan : Plan) (cells : List LogletView) (r : register.RegisterView) (parts : List K) : Type 0 where
   pub as_many : length cells ≡ length plan.shelf
   pub nodes : length parts ≡ plan.nodes
-  pub fresh : AreFresh cells
+  pub fresh : AllByRecursion IsFresh cells
   pub register_is : register.IsFresh r
-  pub parts_are : AreFreshNodes kinds waiting disk parts
+  pub parts_are : AllByRecursion (λ k. IsFreshNode (kinds k) (waiting k) (disk k)) parts

@@ -1,9 +1,9 @@
 pub mod Fresh
 pub mod Playing
+pub mod Made
 pub mod Ends
 pub mod Lines
 pub mod Unread
-pub mod Made
 pub mod Standing
 pub mod Composed
 pub mod Codes

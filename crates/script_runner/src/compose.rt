@@ -1,13 +1,16 @@
 //! What is to be put: the lines that a plan asks for are run, and the text of what they told is made whole.
-ghost use Rattle.std.specs.Prelude.{◌≡◌, ◌≢◌, ◌<◌, ℕ, List, Option, Some, Err, IfOk, IsSome, All, length, map};
+ghost use Rattle.std.specs.Prelude.{◌≡◌, ◌≢◌, ◌⊎◌, ◌<◌, ℕ, List, Option, Some, Err, IfOk, IsSome, All, length, map};
 ghost use Rattle.outside_ends.specs.Faults.{Rose};
+ghost use Rattle.row_text.specs.Output.{output};
 ghost use Rattle.script_text.specs.Refusal.{refusal_text};
 ghost use Rattle.script_text.specs.declared.line.Line.{Line};
 ghost use Rattle.script_text.specs.Lines.{lines_of};
 ghost use Rattle.script_words.specs.Plans.{bad_words_text};
+ghost use Rattle.script_words.specs.Shelf.{kind_name};
 ghost use Rattle.script_words.specs.declared.plan.Plan as plans;
 ghost use Rattle.script_runner.specs.Composed.{ComposesRun, IsComposed, Tells, status_of};
-ghost use Rattle.script_runner.specs.Ends.{IsPlan, TakesSource, rows_text, text_of, any_open};
+ghost use Rattle.script_runner.specs.Ends.{HasScript, IsPlan, TakesSource, text_of};
+ghost use Rattle.script_runner.specs.Made.{any_open};
 ghost use Rattle.script_runner.specs.Fresh.{IsFreshFor, shown};
 ghost use Rattle.script_runner.specs.Lines.{AreLinesFor};
 
@@ -88,7 +91,7 @@ fn status_of(told: &Told) -> Status
 /// The text of the rows and of the chain, over the shelf that the plan names.
 fn rows_text(alloc: Global, plan: &Plan, told: &Told) -> Result<Bytes, AllocError>
     requires { All (λ s. s.id < length plan.now.shelf) told.now.chain.segments }
-    ensures { IfOk result (λ text. text ≡ rows_text plan.now told.now) }
+    ensures { IfOk result (λ text. text ≡ output told.now.rows told.now.end told.now.version told.now.chain told.now.down (map kind_name plan.now.shelf)) }
 {
     let kinds = plan.shelf.names(alloc)?;
     render(
@@ -171,6 +174,7 @@ fn compose_run<
     ensures source { result.answer ≢ Err Failure.Source }
     ensures loglets { length result.yard.shelf.items ≡ length yard.shelf.items }
     ensures nodes { length result.yard.nodes.items ≡ length yard.nodes.items }
+    ensures engines { map (λ k. E.kinds k.engines) result.yard.nodes.items ≡ map (λ k. E.kinds k.engines) yard.nodes.items }
     ensures kinds { map (λ v. v.kind) (map L.view result.yard.shelf.items) ≡ map (λ v. v.kind) (map L.view yard.shelf.items) }
 {
     let Played { yard, told } = play(rt, alloc, yard, lines, gate);
@@ -232,10 +236,12 @@ pub fn compose<
     ensures ok { IfOk result.answer (IsComposed plan.now (S.left source.old) (shown L.view R.view (λ k. (D.view k.disk).faults) result.yard.shelf.items result.yard.register result.yard.nodes.items)) }
     ensures source { result.answer ≡ Err Failure.Source → Rose (S.counted source.old) (S.counted source.new) × TakesSource plan.now }
     ensures untaken { (TakesSource plan.now → ⊥) → source.new ≡ source.old }
+    ensures begun { (result.yard ≡ yard) ⊎ HasScript plan.now (S.left source.old) }
     ensures untouched { IfOk result.answer (λ c. c.end.told ≡ None → result.yard ≡ yard) }
     ensures untouched_unread { result.answer ≡ Err Failure.Source → result.yard ≡ yard }
     ensures loglets { length result.yard.shelf.items ≡ length yard.shelf.items }
     ensures nodes { length result.yard.nodes.items ≡ length yard.nodes.items }
+    ensures engines { map (λ k. E.kinds k.engines) result.yard.nodes.items ≡ map (λ k. E.kinds k.engines) yard.nodes.items }
     ensures kinds { map (λ v. v.kind) (map L.view result.yard.shelf.items) ≡ map (λ v. v.kind) (map L.view yard.shelf.items) }
 {
     let Some(plan) = plan else {

@@ -53,6 +53,7 @@ pub fn play<
     ensures told { IfOk result.told (RunTold lines.now (shown L.view R.view (λ k. (D.view k.disk).faults) result.yard.shelf.items result.yard.register result.yard.nodes.items)) }
     ensures shelf { length result.yard.shelf.items ≡ length yard.shelf.items }
     ensures nodes { length result.yard.nodes.items ≡ length yard.nodes.items }
+    ensures engines { map (λ k. E.kinds k.engines) result.yard.nodes.items ≡ map (λ k. E.kinds k.engines) yard.nodes.items }
     ensures kinds { map (λ v. v.kind) (map L.view result.yard.shelf.items) ≡ map (λ v. v.kind) (map L.view yard.shelf.items) }
 {
     let Yard {

@@ -1,8 +1,8 @@
 //! The top call: a script's bytes in, its rows and the chain out.
-ghost use Rattle.std.specs.Prelude.{◌≡◌, ◌≢◌, None, Some, length, map, string_bytes};
+ghost use Rattle.std.specs.Prelude.{◌≡◌, ◌≢◌, ◌⊎◌, None, Some, length, map, string_bytes};
 ghost use Rattle.script_words.specs.Plans.{plan_of};
 ghost use Rattle.script_words.specs.declared.plan.Plan as plans;
-ghost use Rattle.script_runner.specs.Ends.{IsPlan};
+ghost use Rattle.script_runner.specs.Ends.{HasScript, IsPlan, TakesSource};
 ghost use Rattle.script_runner.specs.Fresh.{IsFreshFor, shown};
 ghost use Rattle.script_runner.specs.Standing.{HasEnded};
 
@@ -60,14 +60,20 @@ pub fn run<
 
     // What is told fits the script and the yard that comes back; the text was put that the status says; a fault was counted, or memory
     // was wanting.
-    ensures ended { HasEnded S.left S.counted K.held K.counted (plan_of (map string_bytes words.now)) source.old source.new sink.old sink.new (shown L.view R.view (λ k. (D.view k.disk).faults) result.yard.shelf.items result.yard.register result.yard.nodes.items) result.end }
+    ensures ended { HasEnded (plan_of (map string_bytes words.now)) (record { left = S.left source.old; missed = S.counted source.old; held = K.held sink.old; lost = K.counted sink.old }) (record { left = S.left source.new; missed = S.counted source.new; held = K.held sink.new; lost = K.counted sink.new }) (shown L.view R.view (λ k. (D.view k.disk).faults) result.yard.shelf.items result.yard.register result.yard.nodes.items) result.end }
 
-    // Where nothing is told and memory sufficed, the yard is as it was; in any case it has as many loglets, of the same kinds in the
-    // same order, and as many nodes.
+    // Only the script of `run` is taken from the source; without a text the sink is as it was.
+    ensures untaken { (TakesSource (plan_of (map string_bytes words.now)) → ⊥) → source.new ≡ source.old }
+    ensures silent { (result.end.status ≡ Status.SourceFault) ⊎ (result.end.status ≡ Status.Memory) → sink.new ≡ sink.old }
+
+    // Where nothing is told and memory sufficed, the yard is as it was, and so it is, whatever the status, where there is no script to run.
+    // In any case it has as many loglets, of the same kinds in the same order, and as many nodes, each with engines of the kinds that it had.
     ensures untouched { result.end.told ≡ None → result.end.status ≢ Status.Memory → result.yard ≡ yard }
+    ensures begun { (result.yard ≡ yard) ⊎ HasScript (plan_of (map string_bytes words.now)) (S.left source.old) }
     ensures kinds { map (λ v. v.kind) (map L.view result.yard.shelf.items) ≡ map (λ v. v.kind) (map L.view yard.shelf.items) }
     ensures loglets { length result.yard.shelf.items ≡ length yard.shelf.items }
     ensures nodes { length result.yard.nodes.items ≡ length yard.nodes.items }
+    ensures engines { map (λ k. E.kinds k.engines) result.yard.nodes.items ≡ map (λ k. E.kinds k.engines) yard.nodes.items }
 {
     match read_words(alloc, words) {
         Ok(plan) => run_plan(rt, alloc, &Some(plan), source, sink, yard, gate),
@@ -97,11 +103,15 @@ pub fn run_plan<
     gate: &G,
 ) -> Ended<L, R, E, D, C>
     requires fresh { (p : plans.Plan) → plan.now ≡ Some p → IsPlan p × IsFreshFor (λ k. E.kinds k.engines) (λ k. E.waiting k.engines) (λ k. D.view k.disk) p (map L.view yard.shelf.items) (R.view yard.register) yard.nodes.items }
-    ensures ended { HasEnded S.left S.counted K.held K.counted plan.now source.old source.new sink.old sink.new (shown L.view R.view (λ k. (D.view k.disk).faults) result.yard.shelf.items result.yard.register result.yard.nodes.items) result.end }
+    ensures ended { HasEnded plan.now (record { left = S.left source.old; missed = S.counted source.old; held = K.held sink.old; lost = K.counted sink.old }) (record { left = S.left source.new; missed = S.counted source.new; held = K.held sink.new; lost = K.counted sink.new }) (shown L.view R.view (λ k. (D.view k.disk).faults) result.yard.shelf.items result.yard.register result.yard.nodes.items) result.end }
+    ensures untaken { (TakesSource plan.now → ⊥) → source.new ≡ source.old }
+    ensures silent { (result.end.status ≡ Status.SourceFault) ⊎ (result.end.status ≡ Status.Memory) → sink.new ≡ sink.old }
+    ensures begun { (result.yard ≡ yard) ⊎ HasScript plan.now (S.left source.old) }
     ensures untouched { result.end.told ≡ None → result.end.status ≢ Status.Memory → result.yard ≡ yard }
     ensures kinds { map (λ v. v.kind) (map L.view result.yard.shelf.items) ≡ map (λ v. v.kind) (map L.view yard.shelf.items) }
     ensures loglets { length result.yard.shelf.items ≡ length yard.shelf.items }
     ensures nodes { length result.yard.nodes.items ≡ length yard.nodes.items }
+    ensures engines { map (λ k. E.kinds k.engines) result.yard.nodes.items ≡ map (λ k. E.kinds k.engines) yard.nodes.items }
 {
     let Worked { yard, answer } = compose(rt, alloc, plan, source, yard, gate);
     match answer {

@@ -1,4 +1,9 @@
-use Rattle.memory_runs.proofs.Ended.{ended_by_words}
+use Rattle.std.proofs.Common.{◌≡◌, ◌≢◌, None, map, subst, sym}
+use Rattle.register_api.specs.View.{IsFresh}
+use Rattle.script_runner.specs.declared.ended.Status.TheVariants as status
+use Rattle.script_runner.specs.Fresh.{AreFresh}
+use Rattle.shelf_loglets.specs.Shelf.{view_of}
+use Rattle.memory_runs.proofs.Ended.{ended_by_words, if_ok, untaken_by_words}
 use denote.Exit
 use denote.Param.Send.{arg_send, param_send}
 use Rattle.shelf_loglets.proofs.Sent.{shelf_send}
@@ -9,4 +14,15 @@ pub run_plan_over-requires-send-L : goal.run_plan_over-requires-send-L
 run_plan_over-requires-send-L g c κs within = param_send _ _ (arg_send _ Exit.no _ shelf_send)
 
 pub returns-clause-ended : goal.returns-clause-ended
-returns-clause-ended g c = ended_by_words g.S.Source.left g.S.Source.counted g.K.Sink.held g.K.Sink.counted _ _ _ _ _ _ _ (λ e. e.end) _ c.in_ok-plan.ensures.is c.run_plan_over.ensures.ended
+returns-clause-ended g c = ended_by_words _ _ _ _ _ (λ e. e.end) _ c.in_ok-plan.ensures.is c.run_plan_over.ensures.ended
+
+pub returns-clause-untaken : goal.returns-clause-untaken
+returns-clause-untaken g c = untaken_by_words _ _ _ _ _ c.in_ok-plan.ensures.is c.run_plan_over.ensures.untaken
+
+-- what is untouched was made, or comes back as it was handed in
+pub returns-clause-untouched : goal.returns-clause-untouched
+returns-clause-untouched g c =
+    if_ok (λ e. e.end.told ≡ None → e.end.status ≢ status.Memory → (e.shelf ≡ c.in_ok-shelf.shelf) × (map (λ d. g.D.Disk.view d) e.disks.items ≡ map (λ d. g.D.Disk.view d) c.args.disks.items) × IsFresh e.register.register)
+    (λ e. e.end.told ≡ None → e.end.status ≢ status.Memory → AreFresh (map view_of e.shelf.items) × (map (λ d. g.D.Disk.view d) e.disks.items ≡ map (λ d. g.D.Disk.view d) c.args.disks.items) × IsFresh e.register.register)
+    (λ e h none stays. let all = h none stays in (subst (λ s. AreFresh (map view_of s.items)) (sym all.0) c.in_ok-shelf.ensures.fresh, all.1, all.2))
+    c.run_plan_over.result c.run_plan_over.ensures.untouched

@@ -1,4 +1,4 @@
-use Rattle.std.proofs.Common.{◌≡◌, ◌+◌, length, map}
+use Rattle.std.proofs.Common.{◌≡◌, ◌+◌, ◌++◌, length, map}
 use Rattle.std.specs.List.{AllByRecursion}
 use Rattle.log_laws.specs.Rises.{lowest}
 use Rattle.script_runner.specs.Fresh.{AreFreshNodes}
@@ -12,4 +12,5 @@ invariant-node g l = record {
   fresh : AllByRecursion (λ d. IsFreshDisk (g.D.Disk.view d)) l.disks.items;
   nodes : AreFreshNodes (λ k. map (λ e. (own-1.entry e.vtable).1.kind_of e.value) k.engines.items) (λ k. lowest (map (λ e. (own-1.entry e.vtable).1.kept e.value) k.engines.items)) (λ k. g.D.Disk.view k.disk) l.nodes.items;
   made : length l.nodes.items ≡ l.counter;
+  same : map (λ k. g.D.Disk.view k.disk) l.nodes.items ++ map (λ d. g.D.Disk.view d) l.disks.items ≡ map (λ d. g.D.Disk.view d) l.initial.disks.items;
 }

@@ -7,8 +7,7 @@ use Rattle.script_words.specs.declared.plan.Task.{Task}
 use Rattle.made_script.specs.Made.{made_lines, made_text}
 use Rattle.made_script.proofs.Spelled.{made-script}
 use Rattle.crew_run.proofs.Running.{if_ok}
-use Rattle.script_runner.specs.Ends.{ComesFrom}
-use Rattle.script_runner.specs.Lines.{AreLinesFor}
+use Rattle.script_runner.specs.Lines.{AreLinesFor, TakenFrom}
 use Rattle.script_runner.proofs.Outside.{read-same}
 use Rattle.script_runner.proofs.lines.make_lines.Goals as goal
 
@@ -26,7 +25,7 @@ returns c =
           (λ ls are. record {
             bytes = made_text plan.seed c.args.count plan.nodes;
             script = script;
-            comes = subst (λ (t : Task). ComesFrom t plan left (made_text plan.seed c.args.count plan.nodes) script) (sym c.requires.make) (refl, refl);
+            comes = subst (λ (t : Task). TakenFrom t plan left (made_text plan.seed c.args.count plan.nodes) script) (sym c.requires.make) (refl, refl);
             spelled = is;
             are = are ∙ ap lines_of same;
           })
