@@ -5,7 +5,7 @@ use anyhow::{Context, bail};
 use delos_types::numbers::{Rank, SessionId};
 use delos_types::place::Place;
 use engine_api::act::Act;
-use fitting_run::fitting::{has_first_ranks, stand_apart};
+use fitting_run::fitting::{has_first_ranks, ranks_rise, stand_apart};
 use std::alloc::Global;
 
 /// An act without a command, from a line like `at 4 session 0 rank 1`.
@@ -40,6 +40,7 @@ pub(crate) fn show_acts(rt: &HostRuntime, input: &[&str]) -> anyhow::Result<()> 
         rt,
         &[
             ("ranks are a session's first", has_first_ranks(acts)),
+            ("ranks rise with places", ranks_rise(acts)),
             ("no two sessions have one place", stand_apart(acts)),
         ],
     )

@@ -1,8 +1,9 @@
 //! Scripts with rows that answer their lines, and which rules of a fitting run the rows break.
-use crate::rows::{item_in, row_in};
+use crate::rows::{item_in, node_in, row_in};
 use crate::words::{number_in, words_of};
 use anyhow::{Context, bail, ensure};
 use delos_types::chain::Segment;
+use delos_types::numbers::NodeId;
 use engine_api::content::Placed;
 use fitting_run::answered::Answered;
 use fitting_run::yard::CellShown;
@@ -36,6 +37,8 @@ pub(crate) struct End {
     pub(crate) shelf: usize,
     /// What the log has from the trim on; where only reports and trims are asked for, but for commands.
     pub(crate) items: Vec<Placed>,
+    /// The node that proposed the entry of each item.
+    pub(crate) by: Vec<NodeId>,
     pub(crate) counted: Counted,
 }
 
@@ -85,9 +88,11 @@ fn segment_in(id: &str, start: &str, end: Option<u64>) -> anyhow::Result<Segment
     })
 }
 
-/// A loglet that counted these faults and lacks. Where it is full it has no room.
+/// A loglet of three servers that counted these faults and lacks. Where it is full it has no room.
 fn cell_in(alloc: Global, room: u64, lacks: u64, faults: u64) -> CellShown {
     CellShown {
+        servers: 3,
+        quorum: 2,
         room,
         limit: 1,
         cut: 0,
@@ -134,7 +139,14 @@ fn take_number(end: &mut End, name: &str, number: &str) -> anyhow::Result<()> {
 fn take_end(alloc: Global, end: &mut End, words: &[&str]) -> anyhow::Result<()> {
     match words {
         [name, number] => take_number(end, name, number)?,
-        ["has", place, says @ ..] => end.items.push(item_in(alloc, place, says)?)?,
+        ["has", place, says @ .., "by", node] => {
+            end.items.push(item_in(alloc, place, says)?)?;
+            end.by.push(node_in(node)?)?;
+        }
+        ["has", place, says @ ..] => {
+            end.items.push(item_in(alloc, place, says)?)?;
+            end.by.push(node_in("n1")?)?;
+        }
         ["seg", id, "from", start, "open"] => end.segments.push(segment_in(id, start, None)?)?,
         ["seg", id, "from", start, "to", stop] => {
             let stop = number_in(stop)?;
@@ -164,6 +176,7 @@ fn rows_and_end(alloc: Global, told: &[&str]) -> anyhow::Result<(Vec<Phased>, En
         segments: Vec::new(alloc),
         shelf: 1,
         items: Vec::new(alloc),
+        by: Vec::new(alloc),
         counted: Counted {
             cells: Vec::new(alloc),
             register: 0,

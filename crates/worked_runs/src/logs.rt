@@ -1,5 +1,5 @@
-//! Logs of a case: an entry for each item, in one loglet.
-ghost use Rattle.std.specs.Prelude.{◌≡◌, ◌≤◌, ◌<◌, ◌^◌, IfOk, IsTrue, FitsSigned};
+//! Logs of a case: the entries of its items, in one loglet.
+ghost use Rattle.std.specs.Prelude.{◌≡◌, ◌≤◌, ◌<◌, ◌^◌, All, IfOk, IsTrue, FitsSigned};
 ghost use Rattle.std.specs.Int.{w64};
 ghost use Rattle.engine_api.specs.Packing.{IsProposable};
 ghost use Rattle.table_core.specs.Spelling.{IsKey, IsSpellable, command_length};
@@ -10,7 +10,7 @@ use delos_types::entry::Entry;
 use delos_types::item::Item;
 use delos_types::numbers::NodeId;
 use engine_api::content::{Content, Placed};
-use engine_api::pack::{alive_item, batch_of_one, leave_item, session_item, trim_item};
+use engine_api::pack::{alive_item, batch, leave_item, session_item, trim_item};
 use fitting_run::yard::CellShown;
 use std::alloc::{AllocError, Global};
 use table_core::command::Command;
@@ -65,31 +65,78 @@ fn item_of(alloc: Global, content: &Content) -> anyhow::Result<Item>
     }
 }
 
-/// The entries of these items, which stand at one position after another from the trim on.
-fn entries_of(alloc: Global, trim: u64, items: &[Placed]) -> anyhow::Result<Vec<Entry>> {
-    let origin = NodeId::new(1).context("no node 1")?;
-    let mut entries = Vec::new(alloc);
-    for (i, item) in items.iter().enumerate() {
+/// What stands at a position, in order.
+fn items_at(alloc: Global, pos: u64, items: &[Placed]) -> anyhow::Result<Vec<Item>>
+    ensures { IfOk result (λ here. All IsProposable here.items) }
+{
+    let mut here = Vec::new(alloc);
+    for item in items {
+        if item.place.pos != pos {
+            continue;
+        }
         ensure!(
-            item.place.pos == trim.saturating_add(i as u64) && item.place.sub == 0,
-            "items stand one behind another"
+            usize::from(item.place.sub) == here.len(),
+            "items of an entry stand one behind another"
         );
-        let item = item_of(alloc, &item.content)?;
-        entries.push(batch_of_one(alloc, origin, item)?)?;
+        here.push(item_of(alloc, &item.content)?)?;
+    }
+    Ok(here)
+}
+
+/// The node that proposed what stands at a position.
+fn proposer_at(pos: u64, items: &[Placed], by: &[NodeId]) -> Option<NodeId> {
+    for (item, node) in items.iter().zip(by.iter()) {
+        if item.place.pos == pos {
+            return Some(*node);
+        }
+    }
+    None
+}
+
+/// The entry at a position.
+fn entry_at(alloc: Global, pos: u64, items: &[Placed], by: &[NodeId]) -> anyhow::Result<Entry> {
+    let origin = proposer_at(pos, items, by).context("entries stand one behind another")?;
+    let here = items_at(alloc, pos, items)?;
+    if here.is_empty() || 16 < here.len() {
+        bail!("an entry has 1 to 16 items");
+    }
+    Ok(batch(alloc, origin, here.as_slice())?)
+}
+
+/// The entries of these items, which stand at one position after another from the trim on, each proposed by one of these nodes.
+fn entries_of(
+    alloc: Global,
+    trim: u64,
+    items: &[Placed],
+    by: &[NodeId],
+) -> anyhow::Result<Vec<Entry>> {
+    let mut entries = Vec::new(alloc);
+    let Some(last) = items.last() else {
+        return Ok(entries);
+    };
+    ensure!(
+        trim <= last.place.pos && last.place.pos - trim < items.len() as u64,
+        "entries stand one behind another"
+    );
+    for pos in trim..=last.place.pos {
+        entries.push(entry_at(alloc, pos, items, by)?)?;
     }
     Ok(entries)
 }
 
-/// One open loglet that has these items, from the trim on.
+/// One open loglet that has these items, from the trim on, in entries that these nodes proposed.
 pub(crate) fn cells_of(
     alloc: Global,
     trim: u64,
     items: &[Placed],
+    by: &[NodeId],
 ) -> anyhow::Result<Vec<CellShown>> {
-    let log = entries_of(alloc, trim, items)?;
+    let log = entries_of(alloc, trim, items, by)?;
     let reach = trim.saturating_add(log.len() as u64);
     let mut cells = Vec::new(alloc);
     cells.push(CellShown {
+        servers: 1,
+        quorum: 1,
         room: reach,
         limit: reach,
         cut: trim,

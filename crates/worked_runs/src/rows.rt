@@ -134,7 +134,7 @@ fn outcome_in(alloc: Global, words: &[&str]) -> anyhow::Result<Outcome> {
 }
 
 /// A node, as `n1`.
-fn node_in(word: &str) -> anyhow::Result<NodeId> {
+pub(crate) fn node_in(word: &str) -> anyhow::Result<NodeId> {
     node_of(word.strip_prefix("n").context("a node begins with n")?)
 }
 

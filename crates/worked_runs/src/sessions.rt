@@ -3,7 +3,7 @@ use crate::fits::{read_shown, show_rules};
 use fitting_run::answered::Answered;
 use fitting_run::fitting::{
     are_rows_of, causes_are_kept, keeps_barriers, places_dont_fall, reads_are_kept_open,
-    reads_keep_order, stays_stopped,
+    reads_dont_fall, reads_keep_order, stays_stopped,
 };
 
 /// Prints which rules these rows break.
@@ -22,6 +22,7 @@ pub(crate) fn judge(rt: &HostRuntime, told: &[Answered]) -> anyhow::Result<()> {
                 "reads keep the order of their session",
                 reads_keep_order(told),
             ),
+            ("the reads of a node don't fall", reads_dont_fall(told)),
             (
                 "no read is answered behind a command that isn't",
                 reads_are_kept_open(told),

@@ -3,8 +3,7 @@ use crate::fits::{read_shown, show_rules};
 use anyhow::ensure;
 use fitting_run::fitting::are_rows_of;
 use fitting_run::trimming::{
-    trim_is_asked_for, trim_is_held, trim_rests_on_log, trims_are_upto, trims_reach_reports,
-    trims_stand,
+    trim_is_allowed, trims_are_as_allowed, trims_are_upto, trims_rise, trims_stand,
 };
 
 /// Prints which rules the rows of a case break.
@@ -25,24 +24,17 @@ pub(crate) fn show_trims(rt: &HostRuntime, input: &[&str]) -> anyhow::Result<()>
                 trims_are_upto(told, trim),
             ),
             (
-                "each trim reaches a report",
-                trims_reach_reports(told, nodes),
+                "each trim goes as far as nodes allowed, and no further",
+                trims_are_as_allowed(told, nodes),
             ),
-            (
-                "the trim is at most what each node reported",
-                trim_is_held(lines, told, nodes, trim),
-            ),
-            (
-                "the trim is asked for",
-                trim_is_asked_for(lines, nodes, trim),
-            ),
+            ("trims don't fall", trims_rise(told)),
             (
                 "what asks for a trim stands in the log",
                 trims_stand(told, trim, items),
             ),
             (
-                "the trim rests on the log",
-                trim_rests_on_log(lines, nodes, trim, items),
+                "the trim is asked for, and each node allowed it",
+                trim_is_allowed(lines, told, nodes, trim, items),
             ),
         ],
     )
