@@ -28,10 +28,9 @@ pub(crate) fn append_both<T: Turns>(
 {
     let mut first = begin(log, entry)?;
     let mut second = begin(log, entry)?;
-    let position = carry(log, &mut second)?;
-    writeln!(out, "the second at {position}")?;
-    let position = carry(log, &mut first)?;
-    writeln!(out, "both: the first at {position}")?;
+    let behind = carry(log, &mut second)?;
+    let before = carry(log, &mut first)?;
+    writeln!(out, "the second at {behind}\nboth: the first at {before}")?;
     Ok(())
 }
 

@@ -16,25 +16,35 @@ pub(crate) enum Topic {
     Logs,
 }
 
+/// Prints what comes of a case, which ends in this line of the file.
+fn show(
+    rt: &HostRuntime,
+    topic: Topic,
+    input: &[&str],
+    file: &str,
+    number: u64,
+) -> anyhow::Result<()> {
+    let mut came = String::new(rt.alloc());
+    play(rt.alloc(), topic, input, &mut came).context(format_args!(
+        "{file}, the case that ends in line {number}"
+    ))?;
+    print!(rt; "{came}")?;
+    Ok(())
+}
+
 /// Prints each case of a file with what comes of it, and tells how many there are.
 pub(crate) fn play_file(rt: &HostRuntime, file: &str, topic: Topic) -> anyhow::Result<u64> {
-    let alloc = rt.alloc();
     let text = fs::read_to_string(rt, file)?;
     println!(rt; "==== {file}")?;
     let mut count = 0u64;
     let mut number = 0u64;
-    let mut input = Vec::new(alloc);
-    let mut came = String::new(alloc);
+    let mut input = Vec::new(rt.alloc());
     for line in text.lines() {
         number = number.saturating_add(1);
         println!(rt; "{line}")?;
         if line == "----" {
-            play(alloc, topic, input.as_slice(), &mut came).context(format_args!(
-                "{file}, the case that ends in line {number}"
-            ))?;
-            print!(rt; "{came}")?;
+            show(rt, topic, input.as_slice(), file, number)?;
             input.clear();
-            came.clear();
             count = count.saturating_add(1);
         } else if !line.is_empty() && !line.starts_with("#") {
             input.push(line)?;

@@ -53,6 +53,17 @@ pub(crate) enum Topic {
     Ends,
 }
 
+/// Prints what comes of a case, which ends in this line of the file.
+fn show_case(
+    rt: &HostRuntime,
+    topic: Topic,
+    input: &[&str],
+    file: &str,
+    number: u64,
+) -> anyhow::Result<()> {
+    show(rt, topic, input).context(format_args!("{file}, the case that ends in line {number}"))
+}
+
 /// Prints what comes of a case.
 fn show(rt: &HostRuntime, topic: Topic, input: &[&str]) -> io::Result<()> {
     match topic {
@@ -85,9 +96,7 @@ pub(crate) fn play_file(rt: &HostRuntime, file: &str, topic: Topic) -> anyhow::R
         number = number.saturating_add(1);
         println!(rt; "{line}")?;
         if line == "----" {
-            show(rt, topic, input.as_slice()).context(format_args!(
-                "{file}, the case that ends in line {number}"
-            ))?;
+            show_case(rt, topic, input.as_slice(), file, number)?;
             input.clear();
             count = count.saturating_add(1);
         } else if !input.is_empty() || !(line.is_empty() || line.starts_with("#")) {

@@ -83,18 +83,26 @@ fn change_bytes(bytes: &mut Vec<u8>, name: &str, numbers: &[u64]) -> io::Result<
             None => return Err(unknown()),
         },
         ("the", [count]) => bytes.truncate(*count as usize),
-        ("bytes" | "then", numbers) => {
-            for number in numbers {
-                bytes.push(byte_of(*number)?)?;
-            }
-        }
-        (count, [byte]) => {
-            let byte = byte_of(*byte)?;
-            for _ in 0..number_of(count)? {
-                bytes.push(byte)?;
-            }
-        }
+        ("bytes" | "then", numbers) => return push_each(bytes, numbers),
+        (count, [byte]) => return push_times(bytes, count, *byte),
         _ => return Err(unknown()),
+    }
+    Ok(())
+}
+
+/// Each number as a byte behind the others.
+fn push_each(bytes: &mut Vec<u8>, numbers: &[u64]) -> io::Result<()> {
+    for number in numbers {
+        bytes.push(byte_of(*number)?)?;
+    }
+    Ok(())
+}
+
+/// A byte so often behind the others.
+fn push_times(bytes: &mut Vec<u8>, count: &str, byte: u64) -> io::Result<()> {
+    let byte = byte_of(byte)?;
+    for _ in 0..number_of(count)? {
+        bytes.push(byte)?;
     }
     Ok(())
 }
