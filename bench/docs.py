@@ -9,18 +9,25 @@ Each block between ``` has a mark on the line above it, an HTML comment, which s
   <!-- from FILE: LINE --> an excerpt of that file, which begins with LINE there; a line of dots, `// ..`, leaves lines out
   <!-- text -->            no code
 
-A block indented by four spaces, or one without a mark, is refused. So is a link to a file that isn't there."""
+A block indented by four spaces, or one without a mark, is refused. So is a link to a file or a heading that isn't there, a name that isn't in
+the repository (names.py), and a page of definitions that isn't the one that definitions.py draws."""
+import glob
 import os
 import re
 import subprocess
 import sys
 import tempfile
 
+sys.dont_write_bytecode = True
+import definitions
+import names
+
 TOP = os.path.abspath(os.path.join(os.path.dirname(os.path.abspath(__file__)), ".."))
 PAGES = ["README.md", "docs/MANUAL.md", "docs/GUIDE.md", "docs/EMBED.md", "docs/THEOREM.md"]
-LINKED = PAGES + ["docs/PROVED.md", "docs/PLANTED.md", "docs/GLOSSARY.md", "docs/ARCHITECTURE.md"]
+LINKED = ["README.md", "docs/*.md", "crates/*/README.md", "bench/*/README.md"]
 MARK = re.compile(r"^<!-- (run|prints|gate|text|from)(?:, status (\d+))?(?: ([^ :]+): (.*?))? -->$")
-LINK = re.compile(r"\]\(([^)#\s]+)(?:#[^)]*)?\)")
+LINK = re.compile(r"\]\(([^)#\s]*)(?:#([^)\s]*))?\)")
+HEADING = re.compile(r"^#+ +(.*?) *$", re.MULTILINE)
 SECONDS = 7200
 # How many seconds `rt try` gives a command, which takes one: the sixty that it gives by itself don't do on a machine that is full.
 ANSWERS = 600
@@ -189,17 +196,38 @@ def check_links(page, faults):
         faults.append(f"{page}: it isn't there")
         return
     with open(path, encoding="utf-8") as it:
-        for target in LINK.findall(it.read()):
-            if "://" not in target and not os.path.exists(os.path.join(os.path.dirname(path), target)):
+        for target, heading in LINK.findall(it.read()):
+            file = os.path.join(os.path.dirname(path), target) if target else path
+            if "://" in target:
+                continue
+            if not os.path.exists(file):
                 faults.append(f"{page}: a link to {target}, which isn't there")
+            elif heading and heading not in headings_of(file):
+                faults.append(f"{page}: a link to {target}#{heading}, a heading which isn't there")
+
+
+def headings_of(path):
+    """The headings of a page, as links name them."""
+    with open(path, encoding="utf-8") as it:
+        found = HEADING.findall(it.read())
+    return {re.sub(r"[^\w\- ]", "", heading.lower()).replace(" ", "-") for heading in found}
+
+
+def check_definitions(faults):
+    with open(os.path.join(TOP, definitions.PAGE), encoding="utf-8") as it:
+        if it.read() != definitions.page():
+            faults.append(f"{definitions.PAGE}: it isn't what bench/definitions.py draws; with --write it draws it anew")
 
 
 def main():
     words = sys.argv[1:]
     program = os.path.abspath(words[0]) if words else None
     faults = []
-    for page in LINKED:
-        check_links(page, faults)
+    for shape in LINKED:
+        for path in sorted(glob.glob(os.path.join(TOP, shape))):
+            check_links(os.path.relpath(path, TOP), faults)
+    check_definitions(faults)
+    faults += names.faults()
     blocks = [it for page in PAGES if os.path.isfile(os.path.join(TOP, page)) for it in blocks_of(page, faults)]
     with open(os.path.join(TOP, ".ci/run"), encoding="utf-8") as it:
         gate = it.read().rstrip().split("\n")[-1].split(" ", 1)[1]

@@ -17,17 +17,14 @@ HEAD = re.compile(r"^(?:(?:abbrev|unfoldable) )?pub (?:(?:record|data) )?([^\s:]
 SPLIT = re.compile(r"[\s(),;{}\[\]⟦⟧<>]+")
 
 
-class File:
-    """One file of a specs folder: what it imports, and its definitions with their lines."""
+class Imports:
+    """What a file imports: names, aliases of modules, and those of the names that it hands on."""
 
-    def __init__(self, path):
+    def __init__(self):
         self.names = {}
         self.aliases = {}
         self.again = {}
         self.definitions = {}
-        with open(path, encoding="utf-8") as it:
-            text = it.read()
-        self.read(text.split("\n"))
 
     def imports(self, line):
         found = USE.match(line)
@@ -42,6 +39,16 @@ class File:
                 self.names[token_of(name)] = (module, token_of(name))
                 if line.lstrip().startswith("pub use"):
                     self.again[token_of(name)] = (module, token_of(name))
+
+
+class File(Imports):
+    """One file of a specs folder: what it imports, and its definitions with their lines."""
+
+    def __init__(self, path):
+        super().__init__()
+        with open(path, encoding="utf-8") as it:
+            text = it.read()
+        self.read(text.split("\n"))
 
     def read(self, lines):
         name = None
@@ -133,17 +140,28 @@ def clauses(text):
     return text[begin:text.index("\n{\n", begin)].split("\n")
 
 
-def main():
-    sys.setrecursionlimit(10000)
-    reader = Reader()
+def lines_of_run():
+    """The text of the file that has `run`, and the lines of its contract without comments."""
     with open(os.path.join(TOP, ROOT), encoding="utf-8") as it:
         text = it.read()
-    root = File.__new__(File)
-    root.names, root.aliases, root.again, root.definitions = {}, {}, {}, {}
+    return text, [it.split("//")[0] for it in clauses(text)]
+
+
+def read_run():
+    """All that the contract of `run` leads to."""
+    sys.setrecursionlimit(10000)
+    text, lines = lines_of_run()
+    root = Imports()
     for line in text.split("\n"):
         root.imports(line)
-    lines = [it.split("//")[0] for it in clauses(text)]
+    reader = Reader()
     reader.follow(root, "", lines)
+    return reader
+
+
+def main():
+    reader = read_run()
+    _, lines = lines_of_run()
     if "--list" in sys.argv[1:]:
         for (module, name), count in reader.reached.items():
             crate, _, *file = module.split(".")
