@@ -1,5 +1,5 @@
 -- A node stays well.
-use Rattle.std.proofs.Common.{◌≡◌, ◌≢◌, ℕ, ◌≤◌, List, [], ◌∷◌, ◌++◌, length, Option, Some, None, sym, ◌∙◌, subst}
+use Rattle.std.proofs.Common.{◌≡◌, ◌≢◌, ℕ, ◌≤◌, List, [], ◌∷◌, ◌++◌, length, Option, Some, None, refl, sym, ◌∙◌, subst}
 use Rattle.std.specs.Prelude.{All}
 use Rattle.delos_types.specs.declared.entry.Entry.{Entry}
 use Rattle.delos_types.specs.declared.item.Item.{Item}
@@ -7,11 +7,12 @@ use Rattle.engine_api.specs.Packing.{packed}
 use Rattle.legal_journal.specs.Law.{Law}
 use Rattle.legal_journal.specs.declared.events.Event.{Event}
 use Rattle.legal_journal.specs.Journal.{IsLegal}
-use Rattle.replica_api.specs.Replica.{Meaning, ReplicaView, Survives, Queues, Flushes}
+use Rattle.replica_api.specs.Replica.{Meaning, ReplicaView, Survives, Queues, Flushes, armed_by}
 use Rattle.base_engine.specs.Reading.{IsFront}
 use Rattle.base_engine.specs.Following.{Follows, IsKnown}
 use Rattle.base_engine.specs.Settling.{MaySend}
 use Rattle.base_engine.specs.Node.{NodeView, NodeOk}
+use Rattle.base_engine.proofs.Following.{follows_armed, known_armed}
 
 module _ (law : Law) (holds : List Event → ℕ → Entry → Type 0) (meaning : Meaning) where
   -- its entries and what waits are as they were
@@ -28,6 +29,11 @@ module _ (law : Law) (holds : List Event → ℕ → Entry → Type 0) (meaning 
         (subst (λ o. law.may old.who (packed o new.replica.kept)) (sym origin)
         (subst (λ k. law.may old.who (packed old.replica.origin k)) (sym kept) (ok.waiting (λ none. some (kept ∙ none)))));
   }
+
+  -- so it is where its disk is armed
+  pub ok_armed : (n : NodeView) (after : ℕ) → NodeOk law holds meaning n → NodeOk law holds meaning (record n { replica = armed_by n.replica after })
+  ok_armed n after ok =
+      ok_same n (record n { replica = armed_by n.replica after }) ok ok.legal refl (follows_armed holds meaning n.seen n.replica after ok.follows) (known_armed n.known n.replica after ok.bounded) refl refl refl refl
 
   pub ok_waiting : (old new : NodeView) → new.nodes ≤ 8 → IsLegal law new.seen → Follows holds meaning new.seen new.replica → IsKnown new.known new.replica → All (λ e. MaySend law.may new.who e) new.outbox.entries → length new.outbox.entries ≤ 4
       → new.who ≡ old.who → new.replica.origin ≡ old.replica.origin → (new.replica.kept ≢ [] → law.may old.who (packed old.replica.origin new.replica.kept)) → NodeOk law holds meaning new

@@ -2,7 +2,6 @@
 ghost use Rattle.std.specs.Prelude.{◌≡◌, ◌≢◌, ◌<◌, ◌^◌, ◌≤◌, ◌+◌, ◌⊎◌, ℕ, max, List, None, Some, [], ◌∷◌, ◌++◌, false, true, IfOk, OnOk, OnErr, IfErr, length};
 ghost use Rattle.delos_types.specs.declared.entry.Entry.{Entry};
 ghost use Rattle.disk_model.specs.Crash.{AnyCrash};
-ghost use Rattle.disk_model.specs.Disk.{Rose};
 ghost use Rattle.engine_api.specs.Packing.{IsProposable, packed, trim_item};
 ghost use Rattle.engine_steps.specs.Layout as layout;
 ghost use Rattle.legal_journal.specs.Journal.{IsLegal};
@@ -10,9 +9,9 @@ ghost use Rattle.virtual_log.specs.Truncating.{IsPrefixTrimmed};
 ghost use Rattle.virtual_log.specs.Turning.{Later, IsAbove};
 ghost use Rattle.virtual_log.specs.Sealing.{SealsLast};
 ghost use Rattle.base_engine.specs.Causes.{Blames};
-ghost use Rattle.base_engine.specs.Arming.{FailsOnce, RecoversOnce, StoreTwice, FailsToOpen};
+ghost use Rattle.base_engine.specs.Arming.{LeavesArming, FailsOnce, RecoversOnce, StoreTwice, FailsToOpen};
 ghost use Rattle.base_engine.specs.Following.{Follows, IsFound, Reaches, IsAt, GoesOn, EndsBy};
-ghost use Rattle.replica_api.specs.Replica.{SpellsOne, Survives, Flushes, Queues, Recovered, ArmedAsBefore, armed_by, saved_in};
+ghost use Rattle.replica_api.specs.Replica.{SpellsOne, Survives, Flushes, Queues, Recovered, armed_by, saved_in};
 ghost use Rattle.base_engine.specs.Settling.{view_of, Settled, Lands, Begins, BeginsEachOnce, Answers, Failing, cause_in};
 ghost use Rattle.base_engine.specs.Proposing.{Sent, Proposed, Refused, IsNear};
 ghost use Rattle.base_engine.specs.Node.{NodeView, NodeOk, Keeps};
@@ -199,12 +198,9 @@ impl<L: SharedLog, R: Replica> Node<L, R> {
         ensures kept { self.new.replica.kept ≡ self.old.replica.kept }
         ensures outbox { self.new.outbox ≡ self.old.outbox }
 
-        // Nobody but a stop arms the disk, and a store is opened again with word 0 alone: one that was down, or failed, and is up
-        // now was opened by 0 last. The store is a cause where its disk failed twice, or failed again.
-        ensures armed { ArmedAsBefore self.old.replica self.new.replica }
-        ensures word { (self.new.replica.word ≡ self.old.replica.word) ⊎ (self.new.replica.word ≡ 0) }
-        ensures opened { self.new.replica.down ≡ false → (self.old.replica.down ≡ true) ⊎ (self.old.replica.faults < self.new.replica.faults) → self.new.replica.word ≡ 0 }
-        ensures down { self.new.replica.down ≡ true → (self.old.replica.down ≡ true) ⊎ Rose self.old.replica.faults self.new.replica.faults }
+        // Nobody but a stop arms the disk, and a store is opened again with word 0 alone. The store is a cause where its disk failed
+        // twice, or failed again.
+        ensures arming { LeavesArming 0 self.old.replica self.new.replica }
         ensures twice { IfErr result (λ f. StoreTwice self.old.replica f self.new.replica) }
         ensures once { OnOk result (FailsOnce self.old.replica self.new.replica) }
         ensures once_refused { IfErr result (λ f. RecoversOnce self.old.replica f self.new.replica) }
@@ -228,12 +224,9 @@ impl<L: SharedLog, R: Replica> Node<L, R> {
         ensures kept { self.new.replica.kept ≡ self.old.replica.kept }
         ensures outbox { self.new.outbox ≡ self.old.outbox }
 
-        // Nobody but a stop arms the disk, and a store is opened again with word 0 alone: one that was down, or failed, and is up
-        // now was opened by 0 last. The store is a cause where its disk failed twice, or failed again.
-        ensures armed { ArmedAsBefore self.old.replica self.new.replica }
-        ensures word { (self.new.replica.word ≡ self.old.replica.word) ⊎ (self.new.replica.word ≡ 0) }
-        ensures opened { self.new.replica.down ≡ false → (self.old.replica.down ≡ true) ⊎ (self.old.replica.faults < self.new.replica.faults) → self.new.replica.word ≡ 0 }
-        ensures down { self.new.replica.down ≡ true → (self.old.replica.down ≡ true) ⊎ Rose self.old.replica.faults self.new.replica.faults }
+        // Nobody but a stop arms the disk, and a store is opened again with word 0 alone. The store is a cause where its disk failed
+        // twice, or failed again.
+        ensures arming { LeavesArming 0 self.old.replica self.new.replica }
         ensures twice { IfErr result (λ f. StoreTwice self.old.replica f self.new.replica) }
         ensures once { OnOk result (FailsOnce self.old.replica self.new.replica) }
         ensures once_refused { IfErr result (λ f. RecoversOnce self.old.replica f self.new.replica) }
@@ -256,12 +249,9 @@ impl<L: SharedLog, R: Replica> Node<L, R> {
         ensures blames { IfErr result (λ f. Blames self.old.who self.old.seen self.old.replica.faults f self.new.seen self.new.replica.faults) }
         ensures any_crash { AnyCrash self.old.replica.disk self.new.replica.disk (SpellsOne R.meaning.spells (IsFound L.holds R.meaning.state self.new.seen self.old.replica.cursor)) }
 
-        // Nobody but a stop arms the disk, and a store is opened again with word 0 alone: one that was down, or failed, and is up
-        // now was opened by 0 last. The store is a cause where its disk failed twice, or failed again.
-        ensures armed { ArmedAsBefore self.old.replica self.new.replica }
-        ensures word { (self.new.replica.word ≡ self.old.replica.word) ⊎ (self.new.replica.word ≡ 0) }
-        ensures opened { self.new.replica.down ≡ false → (self.old.replica.down ≡ true) ⊎ (self.old.replica.faults < self.new.replica.faults) → self.new.replica.word ≡ 0 }
-        ensures down { self.new.replica.down ≡ true → (self.old.replica.down ≡ true) ⊎ Rose self.old.replica.faults self.new.replica.faults }
+        // Nobody but a stop arms the disk, and a store is opened again with word 0 alone. The store is a cause where its disk failed
+        // twice, or failed again.
+        ensures arming { LeavesArming 0 self.old.replica self.new.replica }
         ensures twice { IfErr result (λ f. StoreTwice self.old.replica f self.new.replica) }
         ensures once { OnOk result (FailsOnce self.old.replica self.new.replica) }
         ensures once_refused { IfErr result (λ f. RecoversOnce self.old.replica f self.new.replica) }
@@ -339,10 +329,7 @@ impl<L: SharedLog, R: Replica> Node<L, R> {
         // Where it was up nothing is done; and it fails for the store only where the disk failed again.
         ensures recovered { OnOk result (Recovered word self.old.replica self.new.replica) }
         ensures fails { IfErr result (λ f. FailsToOpen word self.old.replica f self.new.replica) }
-        ensures armed { ArmedAsBefore self.old.replica self.new.replica }
-        ensures word { (self.new.replica.word ≡ self.old.replica.word) ⊎ (self.new.replica.word ≡ word) }
-        ensures opened { self.new.replica.down ≡ false → (self.old.replica.down ≡ true) ⊎ (self.old.replica.faults < self.new.replica.faults) → self.new.replica.word ≡ word }
-        ensures down { self.new.replica.down ≡ true → (self.old.replica.down ≡ true) ⊎ Rose self.old.replica.faults self.new.replica.faults }
+        ensures arming { LeavesArming word self.old.replica self.new.replica }
         ensures twice { IfErr result (λ f. StoreTwice self.old.replica f self.new.replica) }
     {
         restore(&self.log, &mut self.replica, word)
@@ -397,12 +384,9 @@ impl<L: SharedLog, R: Replica> Node<L, R> {
         ensures blames { IfErr result (λ f. IsEarlier self.old.outbox.unsettled f ⊎ Blames self.old.who self.old.seen self.old.replica.faults f self.new.seen self.new.replica.faults) }
         ensures any_crash { AnyCrash self.old.replica.disk self.new.replica.disk (SpellsOne R.meaning.spells (IsFound L.holds R.meaning.state self.new.seen self.old.replica.cursor)) }
 
-        // Nobody but a stop arms the disk, and a store is opened again with word 0 alone: one that was down, or failed, and is up
-        // now was opened by 0 last. The store is a cause where its disk failed twice, or failed again.
-        ensures armed { ArmedAsBefore self.old.replica self.new.replica }
-        ensures word { (self.new.replica.word ≡ self.old.replica.word) ⊎ (self.new.replica.word ≡ 0) }
-        ensures opened { self.new.replica.down ≡ false → (self.old.replica.down ≡ true) ⊎ (self.old.replica.faults < self.new.replica.faults) → self.new.replica.word ≡ 0 }
-        ensures down { self.new.replica.down ≡ true → (self.old.replica.down ≡ true) ⊎ Rose self.old.replica.faults self.new.replica.faults }
+        // Nobody but a stop arms the disk, and a store is opened again with word 0 alone. The store is a cause where its disk failed
+        // twice, or failed again.
+        ensures arming { LeavesArming 0 self.old.replica self.new.replica }
         ensures twice { IfErr result (λ f. IsEarlier self.old.outbox.unsettled f ⊎ StoreTwice self.old.replica f self.new.replica) }
     {
         trim_now(

@@ -2,6 +2,7 @@
 ghost use Rattle.std.specs.Prelude.{◌≡◌, ◌≤◌, ◌++◌, ℕ, List};
 ghost use Rattle.legal_journal.specs.declared.events.Event.{Event};
 ghost use Rattle.legal_journal.specs.Journal.{IsLegal};
+ghost use Rattle.replica_api.specs.Replica.{armed_by};
 ghost use Rattle.base_engine.specs.Node.{NodeView, NodeOk, RestedView, awake};
 
 use crate::node::Node;
@@ -53,6 +54,13 @@ impl<R: Replica> Rested<R> {
             outbox,
             nodes,
         }
+    }
+
+    /// Arms the disk, as `Node::stop` does. Makes no event, and takes no memory.
+    pub fn arm(&mut self, after: u64)
+        ensures { self.new ≡ record self.old { replica = armed_by self.old.replica after } }
+    {
+        self.replica.stop(after);
     }
 }
 

@@ -111,6 +111,14 @@ impl<L: Loglet, R: Register, P: Rules> Fabric<L, R, P> {
         Parts { cells, register }
     }
 
+    /// How many loglets the shelf has.
+    pub fn shelf_len(&self) -> u32
+        ensures len { result ≡ length P.law.shelf }
+        ensures range { (0 < result) × (result ≤ 64) }
+    {
+        self.cells.len() as u32
+    }
+
     /// The journal of all events so far. It is legal, and of each cell it is a run of its loglet.
     pub fn journal(&self) -> &[Event]
         ensures value { result.now ≡ self.now.journal }

@@ -6,3 +6,4 @@ pub mod Law
 pub mod Laws
 pub mod Turns
 pub mod Sealing
+pub mod FaultCalls

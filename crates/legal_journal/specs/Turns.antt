@@ -44,9 +44,14 @@ MayTurn law who seen call =
     (others : List Event) → AreOthers who others → IsLegal law (seen ++ others)
     → MayCall (state_of (seen ++ others)) law who call
 
--- a Seal is begun by who has the right to
+-- a Seal is begun by who has the right to, and nobody breaks or mends anything, nor has an old message come again
 abbrev pub HasRight : (ℕ → Type 0) → ℕ → FabricCall → Type 0
 HasRight seals who (Begin i Seal) = seals who
+HasRight seals who (Stop i server n) = ⊥
+HasRight seals who (Mend i server word) = ⊥
+HasRight seals who (Stray i word) = ⊥
+HasRight seals who (StopMeta n) = ⊥
+HasRight seals who (MendMeta word) = ⊥
 HasRight seals who call = Unit {0}
 
 -- the events of a call: one, but none with Memory; a Carry whose entry couldn't be copied is one with Memory

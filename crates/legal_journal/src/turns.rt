@@ -21,7 +21,7 @@ pub trait Turns {
     fn turn(&mut self, call: FabricCall) -> FabricAnswer
         requires may { MayTurn Self.Law.law (who self.old) (seen self.old) call }
 
-        // A Seal is begun by those alone who have the right to.
+        // A Seal is begun by those alone who have the right to, and a fault is nobody's turn.
         requires right { HasRight Self.Law.seals (who self.old) call }
         ensures turn { IsTurn Self.Law.law (who self.old) (seen self.old) call result (seen self.new) }
         ensures who { who self.new ≡ who self.old };

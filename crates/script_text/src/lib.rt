@@ -5,6 +5,7 @@
 #![tactic(auto)]
 
 pub mod asks;
+pub mod faults;
 mod fields;
 mod forms;
 pub mod line;

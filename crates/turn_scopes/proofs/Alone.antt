@@ -8,6 +8,7 @@ use Rattle.legal_journal.specs.declared.events.FabricCall.{FabricCall}
 use Rattle.legal_journal.specs.declared.events.FabricAnswer.{FabricAnswer}
 use Rattle.legal_journal.specs.declared.events.Event.{Event}
 use Rattle.legal_journal.specs.Journal.{state_of, IsLegal}
+use Rattle.legal_journal.specs.FaultCalls.{is_fault}
 use Rattle.legal_journal.specs.Turns.{MayCall}
 use Rattle.legal_journal.specs.Sealing.{begins_seal, own_seals, Unsealed}
 use Rattle.virtual_log.specs.Sealing.{SealsNone}
@@ -49,7 +50,7 @@ alone_still beside who now same alone = subst (λ w. IsAlone (beside w)) (sym sa
 
 own_of : (who : ℕ) (beside : ℕ → Type 0) → IsAlone beside → (es : List Event) → AreAmong who beside es → AreOwn who es
 own_of who beside alone [] h = tt
-own_of who beside alone (e ∷ es) h = (⊎_elim (λ (k : e.who ≡ who). k) (λ (k : beside e.who). absurd (alone.nobody e.who k)) h.0, own_of who beside alone es h.1)
+own_of who beside alone (e ∷ es) h = (⊎_elim (λ (k : (e.who ≡ who) × (is_fault e.call ≡ false)). k.0) (λ (k : beside e.who). absurd (alone.nobody e.who k)) h.0, own_of who beside alone es h.1)
 
 -- all events are its own
 pub own_since : (who : ℕ) (beside : ℕ → Type 0) (old new : List Event) → IsAlone beside → Since who beside old new → OwnSince who old new

@@ -1,15 +1,17 @@
 -- What others beside do keeps to a scope, as far as it is bound by what its user did.
-use Rattle.std.proofs.Common.{◌≡◌, ◌≢◌, ◌⊎◌, inl, inr, ℕ, List, [], ◌∷◌, ◌++◌, length, refl, sym, ap, ◌∙◌, subst, append_assoc, append-nil}
+use Rattle.std.proofs.Common.{◌≡◌, ◌≢◌, ◌⊎◌, inl, inr, ⊎_elim, ℕ, false, List, [], ◌∷◌, ◌++◌, length, refl, sym, ap, ◌∙◌, subst, append_assoc, append-nil}
 use Rattle.delos_types.specs.declared.chain.Chain.{Chain}
 use Rattle.loglet_api.specs.declared.call.Op.{Op}
 use Rattle.loglet_api.specs.declared.call.Op.TheVariants.{Append, Settle, Tail, Seal, Read, Trim}
 use Rattle.legal_journal.specs.Law.{Law}
 use Rattle.legal_journal.specs.declared.events.FabricCall.{FabricCall}
+use Rattle.legal_journal.specs.declared.events.FabricCall.TheVariants.{Begin, Carry, Forget, ReadChain, WriteChain, Stop, Mend, Stray, StopMeta, MendMeta}
 use Rattle.legal_journal.specs.declared.events.FabricAnswer.{FabricAnswer}
 use Rattle.legal_journal.specs.declared.events.Event.{Event}
 use Rattle.legal_journal.specs.Moves.{CellMove, Begins, Carries, Answers, Drops, Misses, RegisterMove, Gives, Conflicts, Writes, Faults, Fails, Mends, Move, OnCell, OnRegister, Nothing, Never, move}
 use Rattle.legal_journal.specs.Journal.{State, state_of, start, after, MayBegin, MayFollow, IsFree, CellAllowed, RegisterAllowed, IsAllowed, Exists, MayHappen, IsLegalFrom, IsLegal}
-use Rattle.legal_journal.specs.Turns.{AreOthers}
+use Rattle.legal_journal.specs.FaultCalls.{is_fault, MakesNone, NoneBy}
+use Rattle.legal_journal.specs.Turns.{AreOthers, HasRight}
 use Rattle.legal_journal.proofs.Legal.{IsLegalFrom-split, IsLegalFrom-join, after_all-append}
 use Rattle.turn_scopes.specs.Beside.{AreBeside, AreAmong, Since, OthersMay, OthersTrim}
 
@@ -83,16 +85,40 @@ beside_among : (who : ℕ) (beside : ℕ → Type 0) (es : List Event) → AreBe
 beside_among who beside [] b = tt
 beside_among who beside (e ∷ es) b = (inr b.0, beside_among who beside es b.1)
 
-own_among : (who : ℕ) (beside : ℕ → Type 0) (call : FabricCall) (answer : FabricAnswer) (own : List Event) → (own ≡ []) ⊎ (own ≡ record { who = who; call = call; answer = answer } ∷ []) → AreAmong who beside own
-own_among who beside call answer own (inl none) = subst (AreAmong who beside) (sym none) tt
-own_among who beside call answer own (inr one) = subst (AreAmong who beside) (sym one) (inl refl, tt)
+-- what one may make by right is no fault
+pub no_fault_by_right : (seals : ℕ → Type 0) (who : ℕ) (call : FabricCall) → HasRight seals who call → is_fault call ≡ false
+no_fault_by_right seals who (Begin i op) h = refl
+no_fault_by_right seals who (Carry i t word) h = refl
+no_fault_by_right seals who (Forget i t) h = refl
+no_fault_by_right seals who ReadChain h = refl
+no_fault_by_right seals who (WriteChain x c) h = refl
+no_fault_by_right seals who (Stop i server n) h = absurd h
+no_fault_by_right seals who (Mend i server word) h = absurd h
+no_fault_by_right seals who (Stray i word) h = absurd h
+no_fault_by_right seals who (StopMeta n) h = absurd h
+no_fault_by_right seals who (MendMeta word) h = absurd h
 
-pub since_more : (who : ℕ) (beside : ℕ → Type 0) (call : FabricCall) (answer : FabricAnswer) (old seen others own new : List Event) → Since who beside old seen → AreBeside beside others → (own ≡ []) ⊎ (own ≡ record { who = who; call = call; answer = answer } ∷ []) → new ≡ (seen ++ others) ++ own → Since who beside old new
-since_more who beside call answer old seen others own new h b event is = record {
+own_among : (who : ℕ) (beside : ℕ → Type 0) (call : FabricCall) (answer : FabricAnswer) (own : List Event) → is_fault call ≡ false → (own ≡ []) ⊎ (own ≡ record { who = who; call = call; answer = answer } ∷ []) → AreAmong who beside own
+own_among who beside call answer own right (inl none) = subst (AreAmong who beside) (sym none) tt
+own_among who beside call answer own right (inr one) = subst (AreAmong who beside) (sym one) (inl (refl, right), tt)
+
+pub since_more : (who : ℕ) (beside : ℕ → Type 0) (call : FabricCall) (answer : FabricAnswer) (old seen others own new : List Event) → Since who beside old seen → AreBeside beside others → is_fault call ≡ false → (own ≡ []) ⊎ (own ≡ record { who = who; call = call; answer = answer } ∷ []) → new ≡ (seen ++ others) ++ own → Since who beside old new
+since_more who beside call answer old seen others own new h b right event is = record {
   more = h.more ++ (others ++ own);
   seen = is ∙ (append_assoc seen others own ∙ (ap (λ (l : List Event). l ++ (others ++ own)) h.seen ∙ append_assoc old h.more (others ++ own)));
-  among = among-append who beside h.more (others ++ own) h.among (among-append who beside others own (beside_among who beside others b) (own_among who beside call answer own event));
+  among = among-append who beside h.more (others ++ own) h.among (among-append who beside others own (beside_among who beside others b) (own_among who beside call answer own right event));
 }
+
+none_among : (who : ℕ) (beside : ℕ → Type 0) → ((user : ℕ) → beside user → user ≢ who) → (es : List Event) → AreAmong who beside es → NoneBy who es
+none_among who beside apart [] h = tt
+none_among who beside apart (e ∷ es) h = (
+  λ own. ⊎_elim (λ (k : (e.who ≡ who) × (is_fault e.call ≡ false)). k.1) (λ (k : beside e.who). absurd (apart e.who k own)) h.0,
+  none_among who beside apart es h.1,
+)
+
+-- who made no fault since
+pub makes_none : (who : ℕ) (beside : ℕ → Type 0) → ((user : ℕ) → beside user → user ≢ who) → (old new : List Event) → Since who beside old new → MakesNone who old new
+makes_none who beside apart old new h = record { more = h.more; seen = h.seen; none = none_among who beside apart h.more h.among }
 
 pub since_none : (who : ℕ) (beside : ℕ → Type 0) (old new : List Event) → old ≡ new → Since who beside old new
 since_none who beside old new is = record { more = []; seen = sym is ∙ sym (append-nil old); among = tt }

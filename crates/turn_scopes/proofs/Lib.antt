@@ -1,4 +1,5 @@
 pub mod Alone
+pub mod Arming
 pub mod Beside
 pub mod Bounds
 pub mod Moments

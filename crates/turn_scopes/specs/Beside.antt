@@ -1,5 +1,5 @@
 -- Users of a fabric beside one another.
-use Rattle.std.specs.Prelude.{◌≡◌, ◌⊎◌, ◌<◌, ℕ, List, [], ◌∷◌, ◌++◌}
+use Rattle.std.specs.Prelude.{◌≡◌, ◌⊎◌, ◌<◌, ℕ, false, List, [], ◌∷◌, ◌++◌}
 use Rattle.delos_types.specs.declared.entry.Entry.{Entry}
 use Rattle.legal_journal.specs.Law.{Law}
 use Rattle.legal_journal.specs.declared.events.FabricCall.{FabricCall}
@@ -7,6 +7,7 @@ use Rattle.legal_journal.specs.declared.events.FabricAnswer.{FabricAnswer}
 use Rattle.legal_journal.specs.declared.events.Event.{Event}
 use Rattle.legal_journal.specs.Journal.{state_of, IsLegal, IsFree}
 use Rattle.legal_journal.specs.Turns.{MayCall, OwnEvents}
+use Rattle.legal_journal.specs.FaultCalls.{is_fault}
 use Rattle.legal_journal.specs.Sealing.{own_seals}
 
 -- each event is of one of those beside
@@ -27,10 +28,10 @@ pub record IsTaken (law : Law) (beside : ℕ → Type 0) (who : ℕ) (old : List
   pub seen : new ≡ (old ++ others) ++ own
   pub legal : IsLegal law new
 
--- each event is who's, or of one of those beside
+-- each event is who's, and then no fault, or of one of those beside
 abbrev pub AreAmong : ℕ → (ℕ → Type 0) → List Event → Type 0
 AreAmong who beside [] = Unit {0}
-AreAmong who beside (e ∷ es) = ((e.who ≡ who) ⊎ beside e.who) × AreAmong who beside es
+AreAmong who beside (e ∷ es) = (((e.who ≡ who) × (is_fault e.call ≡ false)) ⊎ beside e.who) × AreAmong who beside es
 
 -- so is each event since old
 pub record Since (who : ℕ) (beside : ℕ → Type 0) (old new : List Event) : Type 0 where

@@ -1,5 +1,6 @@
 //! A node between two times at which it has an access.
 ghost use Rattle.std.specs.Prelude.{◌≡◌};
+ghost use Rattle.replica_api.specs.Replica.{armed_by};
 ghost use Rattle.turn_scopes.specs.Seats.{SeatView, SeatOk, node_of};
 ghost use Rattle.turn_scopes.specs.Beside.{Since, SealsByRight, Narrows};
 
@@ -49,6 +50,14 @@ impl<S: Replica, C: Chooser> Seat<S, C> {
         ensures { result ≡ self.now.who }
     {
         self.who
+    }
+
+    /// Arms the disk of the node's store, where that is up: its write number `after` from now on stops inside itself, as in a crash; 0 takes
+    /// that back. Makes no event, and takes no memory.
+    pub fn arm(&mut self, after: u64)
+        ensures { self.new ≡ record self.old { node = record self.old.node { replica = armed_by self.old.node.replica after } } }
+    {
+        self.node.arm(after);
     }
 
     /// Takes the access of its user, within a scope that begins here. Makes no event, and takes no memory.

@@ -4,7 +4,7 @@ use Rattle.legal_journal.specs.Turns.{MayTurn, HasRight, IsTurn}
 use Rattle.legal_journal.proofs.Legal.{legal_front}
 use Rattle.turn_scopes.specs.Beside.{NarrowView, IsNarrow}
 use Rattle.turn_scopes.proofs.Widening.{call_wider, legal_within, own_cases}
-use Rattle.turn_scopes.proofs.Beside.{legal_beside, are_others, since_more}
+use Rattle.turn_scopes.proofs.Beside.{legal_beside, are_others, no_fault_by_right, since_more}
 use Rattle.turn_scopes.proofs.Seals.{right_more}
 use Rattle.turn_scopes.proofs.narrowed.NarrowedTurns.turn.Goals as goal
 
@@ -44,6 +44,7 @@ invariant_of-self g c =
       narrows = i.narrows;
       legal = legal_within q.law k.law i.narrows.narrower who c.args.call c.take.result mid t.own (a.seen c.take.new.self) front called t.event t.seen t.legal;
       since_is = since_more who (a.beside (a.who c.self.inside.access)) c.args.call c.take.result q.since (a.seen s.access) t.others t.own (a.seen c.take.new.self) i.since_is t.between
+          (no_fault_by_right q.seals who c.args.call (subst (λ (x : NarrowView). HasRight q.seals x.who c.args.call) (sym c.self.view_is) c.requires.right))
           (own_cases q.law k.law i.narrows.narrower who c.args.call c.take.result t.own t.event) t.seen;
       right = right_more q.seals who c.args.call c.take.result q.since (a.seen s.access) t.others t.own (a.seen c.take.new.self) i.right
           (are_others who (a.beside (a.who c.self.inside.access)) (a.apart (a.who c.self.inside.access)) t.others t.between) (subst (λ (x : NarrowView). HasRight q.seals x.who c.args.call) (sym c.self.view_is) c.requires.right)
