@@ -1,3 +1,4 @@
+pub mod Arming
 pub mod Spending
 pub mod Quiet
 pub mod Moving

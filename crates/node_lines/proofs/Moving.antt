@@ -16,15 +16,17 @@ use Rattle.engine_api.specs.Items.{content_of}
 use Rattle.engine_api.specs.Packing.{IsProposable}
 use Rattle.replica_api.specs.Replica.{ReplicaView, Queues, Flushes}
 use Rattle.base_engine.specs.declared.outbox.Given.{Given}
+use Rattle.base_engine.specs.Arming.{LeavesArming}
 use Rattle.base_engine.specs.Settling.{OutboxView, Settled, cause_in}
 use Rattle.base_engine.specs.Proposing.{Sent, with_entry}
 use Rattle.base_engine.specs.Node.{NodeView, Keeps}
+use Rattle.base_engine.proofs.Arming.{arming_same, arming_rest, arming_refl, arming_trans}
 use Rattle.node_lines.specs.UnderWay.{IsGiven, rank_under, ranks_in}
 use Rattle.node_lines.proofs.Settling.{Extends, settled_given, none-front}
 use Rattle.node_lines.proofs.Queueing.{flushed_given, sent_given, sent_other}
 use Rattle.node_lines.specs.Moving.{Spends, strikes, CanPack, causes_of, Goes, StaysGiven, HasNoneOf, IsQuiet, Moves, HandsIn}
 use Rattle.node_lines.proofs.Quiet.{IsStill, settled_still, flushed_still, sent_still}
-use Rattle.node_lines.proofs.Spending.{spends-none, spends-both, spends-settled, spends-permuted, shuffled, strikes-same}
+use Rattle.node_lines.proofs.Spending.{spends-none, spends-both, spends-settled, spends-permuted, shuffled, strikes-same, strikes-kept}
 
 given_of : (mid : OutboxView) (p : Option Entry) → (with_entry mid p).given ≡ mid.given
 given_of mid None = refl
@@ -67,8 +69,8 @@ module _ (law : Law) (low : (log : List Entry) (n : ℕ) → law.floor log n →
 
   -- entries were settled, and then what is outstanding changed alone
   goes-settled : (old new : NodeView) (mid : OutboxView) → Keeps law old new → strikes old.replica ≤ strikes new.replica → (h : Settled Holds old.who old.seen old.outbox new.seen mid) → new.outbox.given ≡ mid.given
-      → (CanPack old.replica.kept → CanPack new.replica.kept) → Goes law old new []
-  goes-settled old new mid k low_count h same packs = record {
+      → (CanPack old.replica.kept → CanPack new.replica.kept) → LeavesArming 0 old.replica new.replica → Goes law old new []
+  goes-settled old new mid k low_count h same packs arms = record {
     keeps = k;
     given = h.given;
     gained = same ∙ h.gained;
@@ -76,12 +78,14 @@ module _ (law : Law) (low : (log : List Entry) (n : ℕ) → law.floor log n →
         (spends-settled old.who old.seen new.seen old.outbox mid (strikes old.replica) h)
         (spends-none old.who new.seen new.seen (strikes old.replica) (strikes new.replica) ([], sym (append-nil new.seen)) low_count);
     packs = packs;
+    arming = arms;
   }
 
-  pub moves-pack : (old new : NodeView) → CanPack old.replica.kept → Keeps law old new → strikes old.replica ≤ strikes new.replica
+  pub moves-pack : (old new : NodeView) → CanPack old.replica.kept → Keeps law old new → new.replica ≡ record old.replica { kept = new.replica.kept }
       → Sent Holds old.who old.seen old.outbox (λ packed. Flushes old.replica.origin old.replica.kept packed new.replica.kept) new.seen new.outbox → Moves law old new []
-  moves-pack old new can k low_count h = record {
-    goes = goes-settled old new h.mid k low_count h.settled (ap (λ (o : OutboxView). o.given) h.is_with ∙ given_of h.mid h.packed) (packs-flushed old.replica.origin old.replica.kept new.replica.kept h.packed h.out);
+  moves-pack old new can k rest h = record {
+    goes = goes-settled old new h.mid k (strikes-kept old.replica new.replica rest) h.settled (ap (λ (o : OutboxView). o.given) h.is_with ∙ given_of h.mid h.packed) (packs-flushed old.replica.origin old.replica.kept new.replica.kept h.packed h.out)
+        (arming_rest 0 old.replica new.replica rest);
     stays = λ s sent none g. flushed_given law low old.who old.replica.origin s sent old.seen new.seen old.outbox new.outbox old.replica.kept new.replica.kept k.later.legal none can.each can.few h g;
     quiet = λ s q. quiet_in new s (flushed_still old.who old.replica.origin s old.seen new.seen old.outbox new.outbox old.replica.kept new.replica.kept can.each can.few h (still_in old s q));
   }
@@ -89,7 +93,8 @@ module _ (law : Law) (low : (log : List Entry) (n : ℕ) → law.floor log n →
   pub moves-settle : (old new : NodeView) (cause : Option Cause) → Keeps law old new → new.replica ≡ old.replica
       → Settled Holds old.who old.seen old.outbox new.seen (record { entries = new.outbox.entries; given = new.outbox.given; unsettled = cause }) → Moves law old new []
   moves-settle old new cause k same h = record {
-    goes = goes-settled old new (record { entries = new.outbox.entries; given = new.outbox.given; unsettled = cause }) k (strikes-same old.replica new.replica same) h refl (λ c. subst (λ r. CanPack r.kept) (sym same) c);
+    goes = goes-settled old new (record { entries = new.outbox.entries; given = new.outbox.given; unsettled = cause }) k (strikes-same old.replica new.replica same) h refl (λ c. subst (λ r. CanPack r.kept) (sym same) c)
+        (arming_same 0 old.replica new.replica same);
     stays = λ s sent none g. subst (λ r. IsGiven new.seen new.outbox.entries r.kept s sent) (sym same)
         (settled_given law low old.who s sent old.seen new.seen old.outbox (record { entries = new.outbox.entries; given = new.outbox.given; unsettled = cause }) old.replica.kept k.later.legal none h g);
     quiet = λ s q.
@@ -109,15 +114,16 @@ module _ (law : Law) (low : (log : List Entry) (n : ℕ) → law.floor log n →
     rest = extends-of old new k;
   }
 
-  pub moves-sync : (old new : NodeView) (others : List Cause) → Keeps law old new → new.outbox ≡ old.outbox → new.replica.kept ≡ old.replica.kept
+  pub moves-sync : (old new : NodeView) (others : List Cause) → Keeps law old new → new.outbox ≡ old.outbox → new.replica.kept ≡ old.replica.kept → LeavesArming 0 old.replica new.replica
       → Spends old.who old.seen new.seen (strikes old.replica) (strikes new.replica) others → Moves law old new others
-  moves-sync old new others k same kept spends = record {
+  moves-sync old new others k same kept arms spends = record {
     goes = record {
       keeps = k;
       given = [];
       gained = ap (λ (o : OutboxView). o.given) same ∙ sym (append-nil old.outbox.given);
       spends = spends;
       packs = λ c. subst CanPack (sym kept) c;
+      arming = arms;
     };
     stays = λ s sent none g. subst (λ (x : List Item). IsGiven new.seen new.outbox.entries x s sent) (sym kept)
         (subst (λ (o : OutboxView). IsGiven new.seen o.entries old.replica.kept s sent) (sym same)
@@ -136,10 +142,11 @@ module _ (law : Law) (low : (log : List Entry) (n : ℕ) → law.floor log n →
   packs-queued origin kept kept' item None fine h c = record { each = subst (λ k. All IsProposable k) (sym h.0) (all-more kept item c.each fine); few = h.1 }
   packs-queued origin kept kept' item (Some e) fine h c = subst CanPack (sym h.2) (record { each = All-nil IsProposable; few = omega arith })
 
-  pub hands-in : (old new : NodeView) (item : Item) (s sent : ℕ) → CanPack old.replica.kept → IsProposable item → Keeps law old new → strikes old.replica ≤ strikes new.replica → rank_under s (content_of item) ≡ Some (sent + 1)
+  pub hands-in : (old new : NodeView) (item : Item) (s sent : ℕ) → CanPack old.replica.kept → IsProposable item → Keeps law old new → new.replica ≡ record old.replica { kept = new.replica.kept } → rank_under s (content_of item) ≡ Some (sent + 1)
       → Sent Holds old.who old.seen old.outbox (λ packed. Queues old.replica.origin old.replica.kept item packed new.replica.kept) new.seen new.outbox → HandsIn law old new s sent
-  hands-in old new item s sent can fine k low_count own h = record {
-    goes = goes-settled old new h.mid k low_count h.settled (ap (λ (o : OutboxView). o.given) h.is_with ∙ given_of h.mid h.packed) (packs-queued old.replica.origin old.replica.kept new.replica.kept item h.packed fine h.out);
+  hands-in old new item s sent can fine k rest own h = record {
+    goes = goes-settled old new h.mid k (strikes-kept old.replica new.replica rest) h.settled (ap (λ (o : OutboxView). o.given) h.is_with ∙ given_of h.mid h.packed) (packs-queued old.replica.origin old.replica.kept new.replica.kept item h.packed fine h.out)
+        (arming_rest 0 old.replica new.replica rest);
     own = λ none g. sent_given law low old.who old.replica.origin s sent old.seen new.seen old.outbox new.outbox old.replica.kept new.replica.kept item k.later.legal none can.each fine own h g;
     stays = λ t other n none g. sent_other law low old.who old.replica.origin t n old.seen new.seen old.outbox new.outbox old.replica.kept new.replica.kept item k.later.legal none can.each fine
         (rank_elsewhere s t (sent + 1) (content_of item) own other) h g;
@@ -148,10 +155,11 @@ module _ (law : Law) (low : (log : List Entry) (n : ℕ) → law.floor log n →
   }
 
   -- an item of no session goes down
-  pub moves-plain : (old new : NodeView) (item : Item) → CanPack old.replica.kept → IsProposable item → Keeps law old new → strikes old.replica ≤ strikes new.replica → ((s : ℕ) → rank_under s (content_of item) ≡ None)
+  pub moves-plain : (old new : NodeView) (item : Item) → CanPack old.replica.kept → IsProposable item → Keeps law old new → new.replica ≡ record old.replica { kept = new.replica.kept } → ((s : ℕ) → rank_under s (content_of item) ≡ None)
       → Sent Holds old.who old.seen old.outbox (λ packed. Queues old.replica.origin old.replica.kept item packed new.replica.kept) new.seen new.outbox → Moves law old new []
-  moves-plain old new item can fine k low_count none h = record {
-    goes = goes-settled old new h.mid k low_count h.settled (ap (λ (o : OutboxView). o.given) h.is_with ∙ given_of h.mid h.packed) (packs-queued old.replica.origin old.replica.kept new.replica.kept item h.packed fine h.out);
+  moves-plain old new item can fine k rest none h = record {
+    goes = goes-settled old new h.mid k (strikes-kept old.replica new.replica rest) h.settled (ap (λ (o : OutboxView). o.given) h.is_with ∙ given_of h.mid h.packed) (packs-queued old.replica.origin old.replica.kept new.replica.kept item h.packed fine h.out)
+        (arming_rest 0 old.replica new.replica rest);
     stays = λ s sent free g. sent_other law low old.who old.replica.origin s sent old.seen new.seen old.outbox new.outbox old.replica.kept new.replica.kept item k.later.legal free can.each fine (none s) h g;
     quiet = λ s q. quiet_in new s (sent_still old.who old.replica.origin s old.seen new.seen old.outbox new.outbox old.replica.kept new.replica.kept item can.each fine (none s) h (still_in old s q));
   }
@@ -181,6 +189,7 @@ module _ (law : Law) (low : (log : List Entry) (n : ℕ) → law.floor log n →
         (spends-both old.who old.seen mid.seen new.seen (strikes old.replica) (strikes mid.replica) (strikes new.replica) (causes_of h.given others) (causes_of k.given more) h.spends
         (subst (λ w. Spends w mid.seen new.seen (strikes mid.replica) (strikes new.replica) (causes_of k.given more)) h.keeps.who k.spends)));
     packs = λ c. k.packs (h.packs c);
+    arming = arming_trans 0 old.replica mid.replica new.replica h.arming k.arming;
   }
 
   -- a session that has no cause had none before
@@ -199,5 +208,5 @@ module _ (law : Law) (low : (log : List Entry) (n : ℕ) → law.floor log n →
 
   -- nothing was done
   pub moves-none : (n : NodeView) → IsLegal law n.seen → Moves law n n []
-  moves-none n legal = moves-sync n n [] (record { who = refl; nodes = refl; origin = refl; later = record { more = []; seen = sym (append-nil n.seen); legal = legal }; forward = omega arith; counts = omega arith }) refl refl
+  moves-none n legal = moves-sync n n [] (record { who = refl; nodes = refl; origin = refl; later = record { more = []; seen = sym (append-nil n.seen); legal = legal }; forward = omega arith; counts = omega arith }) refl refl (arming_refl 0 n.replica)
       (spends-none n.who n.seen n.seen (strikes n.replica) (strikes n.replica) ([], sym (append-nil n.seen)) (omega arith))

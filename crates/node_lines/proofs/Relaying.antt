@@ -27,7 +27,7 @@ module _ (scope law : Law) (old new : NodeView) (legal : IsLegal law new.seen) w
   }
 
   pub goes_by : (others : List Cause) → Goes scope old new others → Goes law old new others
-  goes_by others h = record { keeps = keeps_by h.keeps; given = h.given; gained = h.gained; spends = h.spends; packs = h.packs }
+  goes_by others h = record { keeps = keeps_by h.keeps; given = h.given; gained = h.gained; spends = h.spends; packs = h.packs; arming = h.arming }
 
   pub moves_by : (others : List Cause) → Moves scope old new others → Moves law old new others
   moves_by others h = record { goes = goes_by others h.goes; stays = h.stays; quiet = h.quiet }

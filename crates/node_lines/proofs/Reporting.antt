@@ -188,6 +188,7 @@ module _ (law : Law) (low : (log : List Entry) (n : ℕ) → law.floor log n →
             (spends-event old.who old.seen m.mid cause (strikes old.replica) (strikes old.replica) (omega arith) (subst (λ c. HasEventOf old.who old.seen c m.mid) (same_cause cause x says) met))
             (spends-none old.who m.mid new.seen (strikes old.replica) (strikes new.replica) m.on (strikes-same old.replica new.replica same));
         packs = plain.goes.packs;
+        arming = plain.goes.arming;
       }
 
   pub tells-lost : (old mid new : NodeView) (item : Item) (cause : Cause) → IsProposable item → IsPlain item → LaysDown law old mid item → old.outbox.unsettled ≡ None → Keeps law mid new → new.replica ≡ mid.replica

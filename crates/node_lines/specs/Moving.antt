@@ -10,6 +10,7 @@ use Rattle.journal_laws.specs.Own.{faults_of}
 use Rattle.engine_api.specs.Packing.{IsProposable}
 use Rattle.replica_api.specs.Replica.{ReplicaView}
 use Rattle.base_engine.specs.declared.outbox.Given.{Given}
+use Rattle.base_engine.specs.Arming.{LeavesArming}
 use Rattle.base_engine.specs.Settling.{sessions_in, has_session, cause_in}
 use Rattle.base_engine.specs.Node.{NodeView, Keeps}
 use Rattle.node_lines.specs.UnderWay.{IsGiven, ranks_in}
@@ -54,13 +55,14 @@ abbrev pub failure_of : Synced → List Cause
 failure_of (synced.At tail) = []
 failure_of (synced.Failed c) = c ∷ []
 
--- what a node's call keeps, whatever it does: each cause that it gives, or answers, came of its own
+-- what a node's call keeps, whatever it does: each cause that it gives, or answers, came of its own, and nothing but a stop arms its disk
 pub record Goes (law : Law) (old new : NodeView) (others : List Cause) : Type 0 where
   pub keeps : Keeps law old new
   pub given : List Given
   pub gained : new.outbox.given ≡ old.outbox.given ++ given
   pub spends : Spends old.who old.seen new.seen (strikes old.replica) (strikes new.replica) (causes_of given others)
   pub packs : CanPack old.replica.kept → CanPack new.replica.kept
+  pub arming : LeavesArming 0 old.replica new.replica
 
 -- the commands of session s that were given are so still, where it has no cause
 abbrev pub StaysGiven : NodeView → NodeView → ℕ → Type 0

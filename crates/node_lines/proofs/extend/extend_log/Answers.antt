@@ -5,6 +5,7 @@ use Rattle.legal_journal.specs.declared.events.Event.{Event}
 use Rattle.replica_api.specs.Replica.{ReplicaView}
 use Rattle.base_engine.specs.declared.fault.Fault.TheVariants.{Because}
 use Rattle.base_engine.specs.Causes.{Blames}
+use Rattle.base_engine.proofs.Arming.{arming_same}
 use Rattle.node_lines.specs.Moving.{is_store, strikes}
 use Rattle.node_lines.proofs.Moving.{moves-sync}
 use Rattle.node_lines.proofs.Spending.{spends-none, spends-blames, strikes-same, twice-same}
@@ -19,7 +20,7 @@ returns-in-Ok g c =
     record {
       replaces = record {
         others = [];
-        moves = moves-sync p.law c.requires.floor n m [] k c.in-Ok.ensures.outbox (ap (λ (r : ReplicaView). r.kept) c.in-Ok.ensures.replica)
+        moves = moves-sync p.law c.requires.floor n m [] k c.in-Ok.ensures.outbox (ap (λ (r : ReplicaView). r.kept) c.in-Ok.ensures.replica) (arming_same 0 n.replica m.replica c.in-Ok.ensures.replica)
             (spends-none n.who n.seen m.seen (strikes n.replica) (strikes m.replica) (k.later.more, k.later.seen) (strikes-same n.replica m.replica c.in-Ok.ensures.replica));
         replica = c.in-Ok.ensures.replica;
         outbox = c.in-Ok.ensures.outbox;
@@ -47,7 +48,7 @@ returns-in-Err-Because g c =
     record {
       replaces = record {
         others = why ∷ [];
-        moves = moves-sync p.law c.requires.floor n m (why ∷ []) k c.in-Err-Because.ensures.outbox (ap (λ (r : ReplicaView). r.kept) c.in-Err-Because.ensures.replica)
+        moves = moves-sync p.law c.requires.floor n m (why ∷ []) k c.in-Err-Because.ensures.outbox (ap (λ (r : ReplicaView). r.kept) c.in-Err-Because.ensures.replica) (arming_same 0 n.replica m.replica c.in-Err-Because.ensures.replica)
             (spends-blames n.who n.seen m.seen why n.replica m.replica (k.later.more, k.later.seen) (strikes-same n.replica m.replica c.in-Err-Because.ensures.replica) (blames n.replica.faults m.replica.faults)
             (twice-same n.who n.seen m.seen why n.replica m.replica c.in-Err-Because.ensures.replica (blames n.replica.faults m.replica.faults)));
         replica = c.in-Err-Because.ensures.replica;

@@ -16,7 +16,7 @@ returns-in-Ok g c =
     let m = c.play.new.self in
     record {
       plays = record {
-        moves = moves-sync p.law c.requires.floor n m [] k e.outbox e.kept (spends-none n.who n.seen m.seen (strikes n.replica) (strikes m.replica) (k.later.more, k.later.seen) (strikes-stay n.replica m.replica k.counts e.down));
+        moves = moves-sync p.law c.requires.floor n m [] k e.outbox e.kept e.arming (spends-none n.who n.seen m.seen (strikes n.replica) (strikes m.replica) (k.later.more, k.later.seen) (strikes-stay n.replica m.replica k.counts e.arming.down));
         outbox = e.outbox;
         kept = e.kept;
         reaches = λ none. subst (λ to. Reaches to n.replica m.replica m.seen) c.known-end.ensures e.reaches;
@@ -33,8 +33,8 @@ returns-in-Err-Because g c =
     let why = c.in-Err-Because.cause in
     record {
       plays = record {
-        moves = moves-sync p.law c.requires.floor n m (why ∷ []) k e.outbox e.kept
-            (spends-blames n.who n.seen m.seen why n.replica m.replica (k.later.more, k.later.seen) (strikes-stay n.replica m.replica k.counts e.down)
+        moves = moves-sync p.law c.requires.floor n m (why ∷ []) k e.outbox e.kept e.arming
+            (spends-blames n.who n.seen m.seen why n.replica m.replica (k.later.more, k.later.seen) (strikes-stay n.replica m.replica k.counts e.arming.down)
             (subst (λ f. Blames n.who n.seen n.replica.faults f m.seen m.replica.faults) c.in-Err-Because.field-0-is e.blames)
             (subst (λ f. StoreTwice n.replica f m.replica) c.in-Err-Because.field-0-is e.twice));
         outbox = e.outbox;

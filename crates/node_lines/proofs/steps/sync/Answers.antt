@@ -14,8 +14,8 @@ returns-in-Ok-clause-moves g c =
     let k = c.in-Ok.ensures.keeps in
     let n = c.args.node.now in
     let m = c.sync.new.self in
-    moves-sync p.law c.requires.floor n m [] k c.in-Ok.ensures.outbox c.in-Ok.ensures.kept
-    (spends-none n.who n.seen m.seen (strikes n.replica) (strikes m.replica) (k.later.more, k.later.seen) (strikes-stay n.replica m.replica k.counts c.in-Ok.ensures.down))
+    moves-sync p.law c.requires.floor n m [] k c.in-Ok.ensures.outbox c.in-Ok.ensures.kept c.in-Ok.ensures.arming
+    (spends-none n.who n.seen m.seen (strikes n.replica) (strikes m.replica) (k.later.more, k.later.seen) (strikes-stay n.replica m.replica k.counts c.in-Ok.ensures.arming.down))
 
 pub returns-in-Err-Because-clause-moves : goal.returns-in-Err-Because-clause-moves
 returns-in-Err-Because-clause-moves g c =
@@ -23,8 +23,8 @@ returns-in-Err-Because-clause-moves g c =
     let k = c.in-Err-Because.ensures.keeps in
     let n = c.args.node.now in
     let m = c.sync.new.self in
-    moves-sync p.law c.requires.floor n m (c.in-Err-Because.cause ∷ []) k c.in-Err-Because.ensures.outbox c.in-Err-Because.ensures.kept
-    (spends-blames n.who n.seen m.seen c.in-Err-Because.cause n.replica m.replica (k.later.more, k.later.seen) (strikes-stay n.replica m.replica k.counts c.in-Err-Because.ensures.down)
+    moves-sync p.law c.requires.floor n m (c.in-Err-Because.cause ∷ []) k c.in-Err-Because.ensures.outbox c.in-Err-Because.ensures.kept c.in-Err-Because.ensures.arming
+    (spends-blames n.who n.seen m.seen c.in-Err-Because.cause n.replica m.replica (k.later.more, k.later.seen) (strikes-stay n.replica m.replica k.counts c.in-Err-Because.ensures.arming.down)
     (subst (λ f. Blames n.who n.seen n.replica.faults f m.seen m.replica.faults) c.in-Err-Because.field-0-is c.in-Err-Because.ensures.blames)
     (subst (λ f. StoreTwice n.replica f m.replica) c.in-Err-Because.field-0-is c.in-Err-Because.ensures.twice))
 

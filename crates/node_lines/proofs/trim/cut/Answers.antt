@@ -1,6 +1,7 @@
 use Rattle.std.proofs.Common.{refl, ap, subst, [], ◌∷◌}
 use Rattle.replica_api.specs.Replica.{ReplicaView}
 use Rattle.base_engine.specs.Causes.{Blames}
+use Rattle.base_engine.proofs.Arming.{arming_same}
 use Rattle.base_engine.proofs.Showing.{shows_all}
 use Rattle.node_lines.specs.Moving.{strikes}
 use Rattle.node_lines.proofs.Moving.{moves-sync}
@@ -23,7 +24,7 @@ returns-in-Ok g c =
     record {
       cuts = record {
         others = [];
-        moves = moves-sync p.law c.requires.floor n m [] k e.outbox (ap (λ (r : ReplicaView). r.kept) e.replica)
+        moves = moves-sync p.law c.requires.floor n m [] k e.outbox (ap (λ (r : ReplicaView). r.kept) e.replica) (arming_same 0 n.replica m.replica e.replica)
             (spends-none n.who n.seen m.seen (strikes n.replica) (strikes m.replica) (k.later.more, k.later.seen) (strikes-same n.replica m.replica e.replica));
         replica = e.replica;
         outbox = e.outbox;
@@ -43,7 +44,7 @@ returns-in-Err-Because g c =
     record {
       cuts = record {
         others = why ∷ [];
-        moves = moves-sync p.law c.requires.floor n m (why ∷ []) k e.outbox (ap (λ (r : ReplicaView). r.kept) e.replica)
+        moves = moves-sync p.law c.requires.floor n m (why ∷ []) k e.outbox (ap (λ (r : ReplicaView). r.kept) e.replica) (arming_same 0 n.replica m.replica e.replica)
             (spends-blames n.who n.seen m.seen why n.replica m.replica (k.later.more, k.later.seen) (strikes-same n.replica m.replica e.replica) blames (twice-same n.who n.seen m.seen why n.replica m.replica e.replica blames));
         replica = e.replica;
         outbox = e.outbox;
