@@ -3,6 +3,7 @@ use Rattle.std.specs.Prelude.{◌≡◌, ◌≤◌, true, false, List, length}
 use Rattle.register_api.specs.View.{RegisterView}
 use Rattle.chain_map.specs.Chain.{is_chain}
 use Rattle.script_text.specs.declared.asks.NamedLine.{NamedLine}
+use Rattle.script_text.specs.declared.faults.FaultLine.{FaultLine}
 use Rattle.fitting_run.specs.declared.told.Told.{Told}
 use Rattle.fitting_run.specs.Answered.{Answered, answered_lines}
 use Rattle.fitting_run.specs.Acts.{ActsOnce}
@@ -27,16 +28,16 @@ pub record ChainIsRegistered (o : Told) (r : RegisterView) : Type 0 where
 abbrev pub told_of : List NamedLine → Told → List Answered
 told_of lines o = answered_lines lines o.rows
 
--- What a run tells of this script fits the yard that it gave back. Nobody waited for a row marked `late`: what is asked in its phase or
+-- What a run tells of this script, with its fault lines, fits the yard that it gave back. Nobody waited for a row marked `late`: what is asked in its phase or
 -- later may stand below it.
-pub record Fits (lines : List NamedLine) (o : Told) (yard : Shown) : Type 0 where
+pub record Fits (lines : List NamedLine) (faults : List FaultLine) (o : Told) (yard : Shown) : Type 0 where
   pub one_row_each : OneRowEach lines o.rows
   pub acts_once : ActsOnce lines (told_of lines o) o.chain yard.cells o.end
   pub session_order : KeepsSessionOrder (told_of lines o)
   pub reads_are_current : ReadsAreCurrent (told_of lines o) o.end
   pub barriers : keeps_barriers (told_of lines o) ≡ true
   pub faults_are_counted : FaultsAreCounted (told_of lines o) yard
-  pub replacements : ReplacementsAgree lines (told_of lines o) o.version o.chain (length yard.cells)
+  pub replacements : ReplacementsAgree lines faults (told_of lines o) o.version o.chain (length yard.cells)
   pub reports : ReportsStand (told_of lines o) o.chain.trim (items_of o.chain yard.cells) o.end
   pub trims : TrimsStand lines (told_of lines o) (length yard.disks) o.chain.trim (items_of o.chain yard.cells) o.end
   pub chain_is_registered : ChainIsRegistered o yard.register

@@ -4,6 +4,9 @@ use Rattle.std.specs.List.{list_all, list_any}
 use Rattle.delos_types.specs.declared.chain.Chain.{Chain}
 use Rattle.chain_map.specs.Chain.{first_start, last_id}
 use Rattle.script_text.specs.declared.asks.NamedLine.{NamedLine}
+use Rattle.script_text.specs.declared.faults.FaultAsk.{FaultAsk}
+use Rattle.script_text.specs.declared.faults.FaultAsk.TheVariants.{Stop}
+use Rattle.script_text.specs.declared.faults.FaultLine.{FaultLine}
 use Rattle.row_text.specs.declared.row.Outcome.{Outcome}
 use Rattle.row_text.specs.declared.row.Outcome.TheVariants as out
 use Rattle.fitting_run.specs.Tests.{◌⇒◌, where_some, each_pair}
@@ -73,9 +76,18 @@ tells_upto version a = where_some (version_told a.row.outcome) (λ v. nat_le v v
 abbrev pub is_beside : Answered → NamedLine → Bool
 is_beside a l = (l.phase == a.line.phase) && not (l.node == a.line.node)
 
--- the line found another chain than the first, and another node has a line in its phase
-abbrev pub is_overtaken : List NamedLine → Answered → Bool
-is_overtaken lines a = where_some (version_found a.row.outcome) (λ v. nat_le 2 v && list_any (is_beside a) lines)
+-- what is asked for is a stop of another node's disk
+abbrev pub stops_another : ℕ → FaultAsk → Bool
+stops_another node (Stop stopped after) = not (stopped == node)
+stops_another node asked = false
+
+-- the fault line stops the disk of another node, in the phase
+abbrev pub stops_beside : Answered → FaultLine → Bool
+stops_beside a f = (f.phase == a.line.phase) && stops_another a.line.node f.asks
+
+-- the line found another chain than the first, and another node has a line in its phase, or is stopped in it
+abbrev pub is_overtaken : List NamedLine → List FaultLine → Answered → Bool
+is_overtaken lines faults a = where_some (version_found a.row.outcome) (λ v. nat_le 2 v && (list_any (is_beside a) lines || list_any (stops_beside a) faults))
 
 -- the last segment is of the last loglet of the shelf
 abbrev pub is_spent : Chain → ℕ → Answered → Bool
@@ -88,7 +100,7 @@ goes_by_ones version chain =
 
 -- What the lines of a script were answered that asked to extend the chain, and the chain that is told with its version. The
 -- shelf has so many loglets.
-pub record ReplacementsAgree (lines : List NamedLine) (told : List Answered) (version : ℕ) (chain : Chain) (shelf : ℕ) : Type 0 where
+pub record ReplacementsAgree (lines : List NamedLine) (faults : List FaultLine) (told : List Answered) (version : ℕ) (chain : Chain) (shelf : ℕ) : Type 0 where
   -- no two lines made one version, and starts don't fall as versions rise
   pub versions : each_pair (λ a b. make_in_order a.row.outcome b.row.outcome) told ≡ true
   -- versions rise along the lines of a node, and from phase to phase
@@ -99,6 +111,6 @@ pub record ReplacementsAgree (lines : List NamedLine) (told : List Answered) (ve
   pub starts : list_all (has_begun chain) told ≡ true
   pub upto : list_all (tells_upto version) told ≡ true
   -- another node's replacement needs another node
-  pub overtaken : list_all (is_overtaken lines) told ≡ true
+  pub overtaken : list_all (is_overtaken lines faults) told ≡ true
   pub last : list_all (is_spent chain shelf) told ≡ true
   pub counts : goes_by_ones version chain ≡ true

@@ -12,6 +12,7 @@ use delos_types::chain::{Chain, Segment};
 use delos_types::numbers::NodeId;
 use row_text::row::Outcome;
 use script_text::asks::NamedLine;
+use script_text::faults::{FaultAsk, FaultLine};
 
 fn start_made(outcome: &Outcome) -> Option<u64>
     ensures { result ≡ replacements.start_made outcome.now }
@@ -212,11 +213,13 @@ pub fn versions_are_upto(version: u64, told: &[Answered]) -> bool
     told.iter().all(|a| tells_upto(version, a))
 }
 
-fn is_overtaken(lines: &[NamedLine], a: &Answered) -> bool
-    ensures { result ≡ replacements.is_overtaken lines.now a.now }
+fn is_overtaken(lines: &[NamedLine], faults: &[FaultLine], a: &Answered) -> bool
+    ensures { result ≡ replacements.is_overtaken lines.now faults.now a.now }
 {
     match &a.row.outcome {
-        Outcome::Moved { version } => 2 <= *version && has_line_beside(lines, a),
+        Outcome::Moved { version } => {
+            2 <= *version && (has_line_beside(lines, a) || has_stop_beside(faults, a))
+        }
         _ => true,
     }
 }
@@ -227,11 +230,32 @@ fn has_line_beside(lines: &[NamedLine], a: &Answered) -> bool
     lines.iter().any(|line| line.phase == a.line.phase && line.node != a.line.node)
 }
 
-/// A line that found another node's replacement has another node's line in its phase, and no first chain.
-pub fn overtaken_by_others(lines: &[NamedLine], told: &[Answered]) -> bool
-    ensures { result ≡ list_all (replacements.is_overtaken lines.now) told.now }
+fn has_stop_beside(faults: &[FaultLine], a: &Answered) -> bool
+    ensures { result ≡ list_any (replacements.stops_beside a.now) faults.now }
 {
-    told.iter().all(|a| is_overtaken(lines, a))
+    faults.iter().any(|fault| stops_beside(a, fault))
+}
+
+fn stops_beside(a: &Answered, fault: &FaultLine) -> bool
+    ensures { result ≡ replacements.stops_beside a.now fault.now }
+{
+    fault.phase == a.line.phase && stops_another(a.line.node, &fault.asks)
+}
+
+fn stops_another(node: NodeId, asked: &FaultAsk) -> bool
+    ensures { result ≡ replacements.stops_another node asked.now }
+{
+    match asked {
+        FaultAsk::Stop { node: stopped, .. } => *stopped != node,
+        _ => false,
+    }
+}
+
+/// A line that found another node's replacement found no first chain, and another node has a line in its phase, or is stopped in it.
+pub fn overtaken_by_others(lines: &[NamedLine], faults: &[FaultLine], told: &[Answered]) -> bool
+    ensures { result ≡ list_all (replacements.is_overtaken lines.now faults.now) told.now }
+{
+    told.iter().all(|a| is_overtaken(lines, faults, a))
 }
 
 fn is_spent(chain: &Chain, shelf: usize, a: &Answered) -> bool

@@ -25,16 +25,18 @@ use Rattle.node_lines.specs.declared.lines.Looked.{Looked}
 use Rattle.node_lines.specs.Measuring.{IsCleanPoint}
 use Rattle.node_lines.specs.Workers.{Grows, IsHeld, IsReported, IsSaid, MayRun, appended_by}
 use Rattle.node_lines.proofs.Cleaning.{clean_none}
-use Rattle.node_lines.proofs.Own.{own_more, some_begun}
+use Rattle.node_lines.proofs.Own.{own_more}
+use Rattle.node_course.specs.FaultLines.{IsOutside}
 use Rattle.node_course.specs.Telling.{AreBehind, AreTold, AsksBehind, IsAskedBehind, IsBehind, IsReportedBehind, IsSaidBehind, ToldSo}
 use Rattle.node_course.proofs.Keeping.{behind_then, moments_or}
 use Rattle.node_course.proofs.Moments.{grown_legal, grows_both, grows_not}
+use Rattle.node_course.proofs.Outside.{some_other}
 use Rattle.node_course.proofs.Stands.{held_on}
 
--- The journal goes on by `more`, each event of which is of a node that tells of itself only what lines had it tell, and asks for trims
--- behind reports of as much.
+-- The journal goes on by `more`, each event of which is of number 0, or of a node that tells of itself only what lines had it tell, and asks
+-- for trims behind reports of as much.
 module _ (law : Law) (run : MayRun law) (lines : List NamedLine) (looks : List (Option Looked)) (old new more : List Event) (seen : new ≡ old ++ more) (legal : IsLegal law new) (was : AreBehind old)
-    (tells : (e : Event) → Contains more e → AreTold lines looks e.who new × AsksBehind e.who new) where
+    (tells : (e : Event) → Contains more e → IsOutside e ⊎ (AreTold lines looks e.who new × AsksBehind e.who new)) where
   grows : Grows old new
   grows = (more, seen)
 
@@ -53,9 +55,12 @@ module _ (law : Law) (run : MayRun law) (lines : List NamedLine) (looks : List (
       ⊎_elim
       (λ (before : Contains (appended old) x). inl before)
       (λ (since : Contains (appended part) x).
-      let b = some_begun part x since in
-      let t = tells b.0 (subst (λ es. Contains es b.0) (sym whole) (Contains-append_left part up.0 b.0 b.1)) in
-      inr (b.0.who, subst (λ es. Contains (appended_by b.0.who es) x) (sym is) (own_more b.0.who old part x b.2), t.0, t.1))
+      let b = some_other part x since in
+      ⊎_elim
+      (λ (outside : IsOutside b.0). absurd (b.2 outside))
+      (λ (t : AreTold lines looks b.0.who new × AsksBehind b.0.who new).
+      inr (b.0.who, subst (λ es. Contains (appended_by b.0.who es) x) (sym is) (own_more b.0.who old part x b.3), t.0, t.1))
+      (tells b.0 (subst (λ es. Contains es b.0) (sym whole) (Contains-append_left part up.0 b.0 b.1))))
       (appended_parts old part x (subst (λ es. Contains (appended es) x) is h)))
       (moments_or early old new up grows)
 

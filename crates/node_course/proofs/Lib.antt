@@ -1,5 +1,6 @@
 pub mod Advance
 pub mod Allowed
+pub mod Arming
 pub mod Asked
 pub mod Asking
 pub mod Beginning
@@ -26,6 +27,7 @@ pub mod Looks
 pub mod Lowest
 pub mod Moments
 pub mod Opening
+pub mod Outside
 pub mod Parts
 pub mod Passing
 pub mod Playing

@@ -1,4 +1,5 @@
 pub mod Script
+pub mod FaultLines
 pub mod Moments
 pub mod Played
 pub mod Replacing

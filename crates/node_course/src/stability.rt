@@ -1,5 +1,5 @@
 //! Laws of a node between its lines. Each function does nothing: its contract is the law.
-ghost use Rattle.std.specs.Prelude.{◌≡◌, ◌==◌, ◌<◌, ◌≤◌, ◌+◌, ◌++◌, ℕ, false, List, [], length, Option, None, Some, Contains, slice_get};
+ghost use Rattle.std.specs.Prelude.{◌≡◌, ◌⊎◌, ◌==◌, ◌<◌, ◌≤◌, ◌+◌, ◌++◌, ℕ, false, List, [], length, Option, None, Some, Contains, slice_get};
 ghost use Rattle.std.specs.List.{AllByRecursion};
 ghost use Rattle.delos_types.specs.declared.entry.Entry.{Entry};
 ghost use Rattle.legal_journal.specs.declared.events.Event.{Event};
@@ -9,11 +9,13 @@ ghost use Rattle.virtual_log.specs.Holding.{Holds};
 ghost use Rattle.engine_api.specs.Acted.{asked_in};
 ghost use Rattle.engine_api.specs.Order.{gap_from};
 ghost use Rattle.base_engine.specs.Reading.{IsFront};
+ghost use Rattle.replica_api.specs.Replica.{armed_by};
 ghost use Rattle.turn_scopes.specs.Seats.{SeatView};
 ghost use Rattle.script_text.specs.declared.asks.NamedLine.{NamedLine};
 ghost use Rattle.node_lines.specs.declared.desk.Desk.{Desk};
 ghost use Rattle.node_lines.specs.declared.lines.Looked.{Looked};
 ghost use Rattle.node_lines.specs.Workers.{IsHome, MayRun, WorkerOk};
+ghost use Rattle.node_course.specs.FaultLines.{IsOutside};
 ghost use Rattle.node_course.specs.Script.{BeginsAt};
 ghost use Rattle.node_course.specs.Moments.{NodeCourse, GoesOn, first_course, next_phase, and_then};
 ghost use Rattle.node_course.specs.Telling.{AreBehind, AreTold, AsksBehind};
@@ -40,6 +42,16 @@ pub fn a_node_stays<P: Rules, S: Replica>()
         → NodeAt P.law S.meaning lines home nodes (and_then c more) looks' n from at done seat desks }
 {}
 
+/// What is known of a node stays so as its disk is armed; and a node that rests, rests on.
+pub fn a_node_is_armed<P: Rules, S: Replica>()
+    ensures node { (lines : List NamedLine) (home : ℕ → ℕ) (nodes : ℕ) (c : NodeCourse) (looks : List (Option Looked)) (n from at done after : ℕ) (seat : SeatView) (desks : List Desk)
+        → NodeAt P.law S.meaning lines home nodes c looks n from at done seat desks
+        → NodeAt P.law S.meaning lines home nodes c looks n from at done (record seat { node = record seat.node { replica = armed_by seat.node.replica after } }) desks }
+    ensures rests { (lines : List NamedLine) (home : ℕ → ℕ) (nodes : ℕ) (c : NodeCourse) (looks : List (Option Looked)) (n from done after : ℕ) (seat : SeatView) (desks : List Desk)
+        → Rests P.law S.meaning lines home nodes c looks n from done seat desks
+        → Rests P.law S.meaning lines home nodes c looks n from done (record seat { node = record seat.node { replica = armed_by seat.node.replica after } }) desks }
+{}
+
 /// Of a session that is at home at a node no more has acted, in what the node has seen, than its desk sent.
 pub fn what_has_acted_was_sent<P: Rules, S: Replica>()
     ensures { (lines : List NamedLine) (home : ℕ → ℕ) (nodes : ℕ) (c : NodeCourse) (looks : List (Option Looked)) (n from at done s : ℕ) (d : Desk) (log : List Entry) (seat : SeatView) (desks : List Desk)
@@ -49,11 +61,11 @@ pub fn what_has_acted_was_sent<P: Rules, S: Replica>()
 {}
 
 /// What nodes told stands behind what it tells, still as the journal goes on by events of nodes each of which knows of its own what it told,
-/// and that it asked for trims behind reports of as much.
+/// and that it asked for trims behind reports of as much; and by events of number 0, which is no node.
 pub fn what_is_told_stands_behind<P: Rules>()
     ensures { MayRun P.law → (lines : List NamedLine) (looks : List (Option Looked)) (old more : List Event)
         → IsLegal P.law (old ++ more) → AreBehind old
-        → ((e : Event) → Contains more e → AreTold lines looks e.who (old ++ more) × AsksBehind e.who (old ++ more))
+        → ((e : Event) → Contains more e → IsOutside e ⊎ (AreTold lines looks e.who (old ++ more) × AsksBehind e.who (old ++ more)))
         → AreBehind (old ++ more) }
 {}
 

@@ -17,6 +17,7 @@ use Rattle.fabric_core.specs.Runs.{HasRun, HasRegisterRun}
 use Rattle.log_laws.proofs.Pairs.{all-imply}
 use Rattle.journal_laws.specs.Faults.{faults_in, is_lack_of, is_full_of, is_meta}
 use Rattle.script_text.specs.declared.asks.NamedLine.{NamedLine}
+use Rattle.script_text.specs.declared.faults.FaultLine.{FaultLine}
 use Rattle.row_text.specs.declared.row.Row.{Row}
 use Rattle.fitting_run.specs.Yard.{Shown}
 use Rattle.fitting_run.specs.Tests.{some_is}
@@ -177,7 +178,7 @@ full_from : (v : LogletView) → (size_of v ≡ v.room) ⊎ (v.begun ≡ v.limit
 full_from v (inl room) = or_left (size_of v == v.room) (v.begun == v.limit) (eq-eqb (size_of v) v.room room)
 full_from v (inr limit) = or_right (size_of v == v.room) (v.begun == v.limit) (eq-eqb v.begun v.limit limit)
 
-module _ (law : Law) (told : AreCounted law) (meaning : Meaning) (lines : List NamedLine) (rows : List Row) (journal : List Event) (looks : List (Option Looked)) (log : List Entry) (workers : List WorkerEnd) (chain : Chain) (yard : Shown) (h : HasClosed law meaning lines journal looks log workers) (back : IsGivenBack law journal workers chain yard) where
+module _ (law : Law) (told : AreCounted law) (meaning : Meaning) (lines : List NamedLine) (fault_lines : List FaultLine) (rows : List Row) (journal : List Event) (looks : List (Option Looked)) (log : List Entry) (workers : List WorkerEnd) (chain : Chain) (yard : Shown) (h : HasClosed law meaning lines fault_lines journal looks log workers) (back : IsGivenBack law journal workers chain yard) where
   abbrev played : List Played
   played = played_of lines rows looks
 

@@ -26,6 +26,7 @@ use Rattle.replica_api.specs.Replica.{Meaning}
 use Rattle.turn_scopes.specs.Floors.{FloorIs}
 use Rattle.script_text.specs.declared.line.Admin.TheVariants.{Extend, Alive, Trim, Retire}
 use Rattle.script_text.specs.declared.asks.NamedLine.{NamedLine}
+use Rattle.script_text.specs.declared.faults.FaultLine.{FaultLine}
 use Rattle.script_text.specs.declared.asks.Asks.{Asks}
 use Rattle.script_text.specs.declared.asks.Asks.TheVariants as asks
 use Rattle.row_text.specs.declared.row.Outcome.{Outcome}
@@ -94,18 +95,18 @@ after_at P before [] j x h at = absurd (cc)
 after_at P before (y ∷ ys) zero x h at = let same : y ≡ x = cc in (before, subst (P before) same h.0)
 after_at P before (y ∷ ys) (suc j) x h at = after_at P (before ++ y ∷ []) ys j x h.1 at
 
-module _ (law : Law) (meaning : Meaning) (run : MayRun law) (lines : List NamedLine) (journal : List Event) (looks : List (Option Looked)) (log : List Entry) (workers : List WorkerEnd) (o : Told) (yard : Shown) (mine : (who : ℕ) (e : Entry) → law.may who e → may_of lines who e) (floor_is : FloorIs law.floor (length workers)) (h : HasClosed law meaning lines journal looks log workers) (are : AreRows lines workers looks o.rows) (end_is : o.end ≡ length log) (back : IsGivenBack law journal workers o.chain yard) (told : IsRegisterAsTold (state_of journal).register yard.register) (registered : ChainIsRegistered o yard.register) where
+module _ (law : Law) (meaning : Meaning) (run : MayRun law) (lines : List NamedLine) (fault_lines : List FaultLine) (journal : List Event) (looks : List (Option Looked)) (log : List Entry) (workers : List WorkerEnd) (o : Told) (yard : Shown) (mine : (who : ℕ) (e : Entry) → law.may who e → may_of lines who e) (floor_is : FloorIs law.floor (length workers)) (h : HasClosed law meaning lines fault_lines journal looks log workers) (are : AreRows lines workers looks o.rows) (end_is : o.end ≡ length log) (back : IsGivenBack law journal workers o.chain yard) (told : IsRegisterAsTold (state_of journal).register yard.register) (registered : ChainIsRegistered o yard.register) where
   abbrev played : List Played
   played = played_of lines o.rows looks
 
   size : length looks ≡ length lines
-  size = looks_size law meaning lines journal looks log workers h
+  size = looks_size law meaning lines fault_lines journal looks log workers h
 
   some : 1 ≤ length workers
-  some = some_node law meaning lines journal looks log workers h
+  some = some_node law meaning lines fault_lines journal looks log workers h
 
   legal_then : IsLegal law h.run.seen
-  legal_then = run_is_legal law meaning lines journal looks log workers h
+  legal_then = run_is_legal law meaning lines fault_lines journal looks log workers h
 
   -- of a session its home alone appends commands
   own : (s : ℕ) → IsHome law.may s (h.home s)
@@ -184,7 +185,7 @@ module _ (law : Law) (meaning : Meaning) (run : MayRun law) (lines : List NamedL
       let within = slice_get_within (take n log) there.0 there.1 there.2 in
       let size = length-take n log in
       let before : k.line.phase < phase =
-      early_line law meaning run lines journal looks log workers h k.at k.line x.session phase there.0 there.1 (own x.session) k.is logs.0 (first_is n there.0 there.1 there.2)
+      early_line law meaning run lines fault_lines journal looks log workers h k.at k.line x.session phase there.0 there.1 (own x.session) k.is logs.0 (first_is n there.0 there.1 there.2)
       (subst (λ r. HasRank x.session r there.1) (sym logs.1) there.3) (omega (arith, within, size)) in
       record {
         at = k.at;
@@ -229,7 +230,7 @@ module _ (law : Law) (meaning : Meaning) (run : MayRun law) (lines : List NamedL
       let k = turn_is lines o.rows looks i t at in
       let row = are.each i k.line k.look k.row k.line_at k.look_at k.row_at in
       let retired = retired_is (desk_for workers k.line.node k.line.asks) k.look k.line.asks k.row.outcome row.tells (sym (ap (λ (y : Played). y.row.outcome) k.is) ∙ is) in
-      let r = leave_played law meaning run lines journal looks log workers h i k.line k.line_at Retire retired.0 (k.look_at ∙ ap Some retired.1) in
+      let r = leave_played law meaning run lines fault_lines journal looks log workers h i k.line k.line_at Retire retired.0 (k.look_at ∙ ap Some retired.1) in
       subst (λ n. SaysFrom o.chain yard.cells 0 (content.Leave n)) (sym (ap (λ (y : Played). y.line.node) k.is)) (stood (content.Leave k.line.node) 0 r.stands (omega (arith, none)) (omega arith))
 
   -- and that a trim was asked for
@@ -258,9 +259,9 @@ module _ (law : Law) (meaning : Meaning) (run : MayRun law) (lines : List NamedL
   below = front_below law run.low journal log back.legal h.front
 
   -- what lines did to the chain, by the register at the end
-  replaced : Replacements played o.version o.chain (length yard.cells)
+  replaced : Replacements played fault_lines o.version o.chain (length yard.cells)
   replaced =
-      replacements law lines h.home h.run h.courses workers looks o.rows h.lines_are h.joined are size h.beside some o.version o.chain (length yard.cells)
+      replacements law lines h.home h.run h.courses workers looks o.rows h.lines_are h.joined are size fault_lines h.beside some o.version o.chain (length yard.cells)
       (ap (λ es. (state_of es).register.version) h.seen_is ∙ sym told.given ∙ sym registered.version) (ap (λ es. (state_of es).register.chain) h.seen_is ∙ sym back.chain_is)
       (sym (ap length back.shelf_is) ∙ length-map yard.cells (λ v. v.servers))
 
@@ -338,7 +339,7 @@ module _ (law : Law) (meaning : Meaning) (run : MayRun law) (lines : List NamedL
         omega (arith, same, up, is, upto))
         kept
 
-    pub run_ended : RunEnded played o yard
+    pub run_ended : RunEnded played fault_lines o yard
     run_ended = record {
       log = log;
       tails = tails h.run;
@@ -356,7 +357,7 @@ module _ (law : Law) (meaning : Meaning) (run : MayRun law) (lines : List NamedL
           (let same = ap (λ (k : Chain). k.trim) back.chain_is in
           let low = short in
           stands below (omega (arith, same, low))
-          (subst (λ n. is_clean (λ s. 1) (asked_in 0 (take n log)) ≡ true) same (clean_below law meaning run lines journal looks log workers o yard mine floor_is h are back short)));
+          (subst (λ n. is_clean (λ s. 1) (asked_in 0 (take n log)) ≡ true) same (clean_below law meaning run lines fault_lines journal looks log workers o yard mine floor_is h are back short)));
       asked = subst (λ ls. AllByRecursion (HoldsLines ls) (log ++ virtual_log o.chain yard.cells (length log) (virtual_tail o.chain yard.cells))) (sym played_lines)
           (all-append (HoldsLines lines) log (virtual_log o.chain yard.cells (length log) (virtual_tail o.chain yard.cells)) (holds_lines log of_lines)
           (let low = short in
@@ -371,7 +372,7 @@ module _ (law : Law) (meaning : Meaning) (run : MayRun law) (lines : List NamedL
       left = left;
       above = above;
       forward = forward;
-      trims = trims_ended law meaning run lines journal looks log workers o yard mine floor_is h are back let_go back.nodes (let low = short in omega (arith, low, end_is)) asked;
+      trims = trims_ended law meaning run lines fault_lines journal looks log workers o yard mine floor_is h are back let_go back.nodes (let low = short in omega (arith, low, end_is)) asked;
       came = came;
       registered = registered;
     }

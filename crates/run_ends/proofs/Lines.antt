@@ -29,6 +29,7 @@ use Rattle.script_text.specs.declared.line.Admin.{Admin}
 use Rattle.script_text.specs.declared.line.Admin.TheVariants.{Extend, Alive, Retire, Trim}
 use Rattle.script_text.specs.declared.line.Session.{Session}
 use Rattle.script_text.specs.declared.asks.NamedLine.{NamedLine}
+use Rattle.script_text.specs.declared.faults.FaultLine.{FaultLine}
 use Rattle.script_text.specs.declared.asks.Asks.{Asks}
 use Rattle.script_text.specs.declared.asks.Asks.TheVariants as asks
 use Rattle.row_text.specs.declared.row.Row.{Row}
@@ -127,27 +128,27 @@ answers_so d look a o t = absurd t
 same_some : {A : Type 0} (x y : A) → Some x ≡ Some y → x ≡ y
 same_some x y e = cc
 
-module _ (law : Law) (meaning : Meaning) (run : MayRun law) (lines : List NamedLine) (journal : List Event) (looks : List (Option Looked)) (log : List Entry) (workers : List WorkerEnd) (h : HasClosed law meaning lines journal looks log workers) where
+module _ (law : Law) (meaning : Meaning) (run : MayRun law) (lines : List NamedLine) (fault_lines : List FaultLine) (journal : List Event) (looks : List (Option Looked)) (log : List Entry) (workers : List WorkerEnd) (h : HasClosed law meaning lines fault_lines journal looks log workers) where
   abbrev Home : ℕ → Type 0
-  Home s = AtHome law meaning lines journal looks log workers h s
+  Home s = AtHome law meaning lines fault_lines journal looks log workers h s
 
   abbrev Seat : (s : ℕ) → Home s → Type 0
-  Seat s n = HasDesk law meaning lines journal looks log workers h s n
+  Seat s n = HasDesk law meaning lines fault_lines journal looks log workers h s n
 
   abbrev ends : ℕ → SessionEnd
-  ends s = the_end law meaning lines journal looks log workers h s
+  ends s = the_end law meaning lines fault_lines journal looks log workers h s
 
   abbrev end_so : ℕ → Desk → SessionEnd
-  end_so s d = ends_so law meaning lines journal looks log workers h s d
+  end_so s d = ends_so law meaning lines fault_lines journal looks log workers h s d
 
   first_stop : (s : ℕ) (n : Home s) (d : Seat s n) (k : Cause) → d.was.stopped ≡ Some k → (a : ℕ) × (d.was.answered ≡ Some a)
-  first_stop s n d k stop = stopped_first law meaning lines journal looks log workers h s n d k stop
+  first_stop s n d k stop = stopped_first law meaning lines fault_lines journal looks log workers h s n d k stop
 
   legal : IsLegal law h.run.seen
-  legal = run_is_legal law meaning lines journal looks log workers h
+  legal = run_is_legal law meaning lines fault_lines journal looks log workers h
 
   size : length looks ≡ length lines
-  size = looks_size law meaning lines journal looks log workers h
+  size = looks_size law meaning lines fault_lines journal looks log workers h
 
   -- the log as far as it was played is a front of what is held
   front : IsFront Holds h.run.seen log
@@ -364,10 +365,10 @@ module _ (law : Law) (meaning : Meaning) (run : MayRun law) (lines : List NamedL
       known = let low = at_get (λ (m : NamedLine). session_in m.asks ≤ 63) lines i l h.lines_are.known line_at in let same = ap session_in is in omega (arith, low, same)
 
       home_of : Home (session_in a)
-      home_of = at_home law meaning lines journal looks log workers h (session_in a)
+      home_of = at_home law meaning lines fault_lines journal looks log workers h (session_in a)
 
       seat_of : Seat (session_in a) home_of
-      seat_of = has_desk law meaning lines journal looks log workers h (session_in a) home_of known
+      seat_of = has_desk law meaning lines fault_lines journal looks log workers h (session_in a) home_of known
 
       module _ (some : IsSome (session_asking a)) where
         node_is : l.node ≡ h.home (session_in a)
@@ -380,7 +381,7 @@ module _ (law : Law) (meaning : Meaning) (run : MayRun law) (lines : List NamedL
         played_so =
             subst (PlayedSo lines h.run h.run.phase home_of.worker.seat.node.replica.cursor (h.home (session_in a)) home_of.closed.was looks i l.phase) is
             (played_run law meaning lines h.home (length workers) h.run looks h.courses h.joined (h.home (session_in a)) (length lines) (length lines) h.run.phase home_of.worker.seat home_of.closed.was (h.lines_are.there (session_in a)) (h.lines_are.within (session_in a))
-            (ended_at law meaning lines journal looks log workers h (h.home (session_in a)) home_of.worker home_of.closed (h.lines_are.there (session_in a)) (h.lines_are.within (session_in a))) i l (slice_get_within lines i l line_at) line_at node_is)
+            (ended_at law meaning lines fault_lines journal looks log workers h (h.home (session_in a)) home_of.worker home_of.closed (h.lines_are.there (session_in a)) (h.lines_are.within (session_in a))) i l (slice_get_within lines i l line_at) line_at node_is)
 
     desk_is : (a : Asks) (is : l.asks ≡ a) → IsSome (session_asking a) → desk_for workers l.node a ≡ Some (seat_of a is).now
     desk_is (asks.Logged s r command) is some = desk_there (asks.Logged s r command) is some
@@ -401,7 +402,7 @@ module _ (law : Law) (meaning : Meaning) (run : MayRun law) (lines : List NamedL
         let so =
         subst (PlayedSo lines h.run h.run.phase w.0.seat.node.replica.cursor (l.node - 1 + 1) k.was looks i l.phase) is
         (played_run law meaning lines h.home (length workers) h.run looks h.courses h.joined (l.node - 1 + 1) (length lines) (length lines) h.run.phase w.0.seat k.was least most
-        (ended_at law meaning lines journal looks log workers h (l.node - 1 + 1) w.0 k least most) i l (slice_get_within lines i l line_at) line_at same) in (
+        (ended_at law meaning lines fault_lines journal looks log workers h (l.node - 1 + 1) w.0 k least most) i l (slice_get_within lines i l line_at) line_at same) in (
           so.0,
           so.1,
           so.2,

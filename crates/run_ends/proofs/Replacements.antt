@@ -1,5 +1,5 @@
 -- What the rows tell of replacements of the last loglet, by the chain that is told.
-use Rattle.std.proofs.Common.{◌≡◌, refl, sym, ap, ◌∙◌, subst, ◌⊎◌, inl, inr, ℕ, suc, ◌+◌, ◌<◌, ◌≤◌, ◌&&◌, ◌==◌, Bool, true, false, cond, List, [], ◌∷◌, Option, Some, None, map, length, count_by, slice_get, nat_lt, arith, eq-eqb}
+use Rattle.std.proofs.Common.{◌≡◌, refl, sym, ap, ◌∙◌, subst, ◌⊎◌, inl, inr, ⊎_elim, ℕ, suc, ◌+◌, ◌<◌, ◌≤◌, ◌&&◌, ◌==◌, Bool, true, false, cond, List, [], ◌∷◌, Option, Some, None, map, length, count_by, slice_get, nat_lt, arith, eq-eqb}
 use Rattle.std.specs.Prelude.{is_some}
 use Rattle.std.specs.List.{list_any}
 use Rattle.std.proofs.lemmas.Bool.{and_from, and_parts, or_left, or_right}
@@ -17,6 +17,7 @@ use Rattle.virtual_log.specs.declared.extend.Extension.TheVariants.{Extended, Mo
 use Rattle.node_lines.specs.Chains.{HasStarted}
 use Rattle.script_text.specs.declared.line.Admin.TheVariants.{Extend, Alive, Retire, Trim}
 use Rattle.script_text.specs.declared.asks.NamedLine.{NamedLine}
+use Rattle.script_text.specs.declared.faults.FaultLine.{FaultLine}
 use Rattle.script_text.specs.declared.asks.Asks.{Asks}
 use Rattle.script_text.specs.declared.asks.Asks.TheVariants as asks
 use Rattle.row_text.specs.declared.row.Row.{Row}
@@ -26,7 +27,7 @@ use Rattle.fitting_run.specs.Replacements.{begins_at, goes_by_ones, version_told
 use Rattle.node_lines.specs.declared.desk.Desk.{Desk}
 use Rattle.node_lines.specs.declared.lines.Looked.{Looked}
 use Rattle.node_lines.specs.declared.lines.Looked.TheVariants as looked
-use Rattle.run_laws.specs.Ended.{IsApart, IsBeside, IsReplaced, Played, Precedes, Replacements, SomeTurn, tells_version}
+use Rattle.run_laws.specs.Ended.{IsApart, IsBeside, IsReplaced, IsStoppedBeside, Played, Precedes, Replacements, SomeTurn, tells_version}
 use Rattle.run_laws.proofs.Members.{Among, contained-among}
 use Rattle.node_course.specs.Script.{AreLines, failure_of_look}
 use Rattle.node_course.specs.Moments.{NodeCourse, moment}
@@ -38,6 +39,7 @@ use Rattle.node_course.proofs.Moments.{grown_legal}
 use Rattle.node_course.proofs.Parts.{run_legal, run_seen}
 use Rattle.node_course.proofs.Segments.{all_counted, each_told}
 use Rattle.node_course.proofs.Versions.{stands_now, versions_apart, versions_rise}
+use Rattle.node_course.specs.FaultLines.{HasLineIn, HasStopIn}
 use Rattle.run_ends.specs.Closing.{HasBeside, WorkerEnd}
 use Rattle.run_ends.specs.Rows.{AreRows, Tells, desk_for, played_of}
 use Rattle.run_ends.proofs.Turns.{lines_are as rows_lines, turn_is, turn_of}
@@ -305,9 +307,9 @@ module _ (law : Law) (lines : List NamedLine) (home : ℕ → ℕ) (run : NodeCo
             | inr none ↦ absurd (let high = none.0 in omega (arith, low, high, are.size))
           ]
 
-  -- where a line found another's, another node's line was played in its phase
-  module _ (size : length looks ≡ length lines) (beside : (i : ℕ) (l : NamedLine) (version : ℕ) → slice_get lines i ≡ Some l → slice_get looks i ≡ Some (Some (looked.Extended (Moved version))) → HasBeside lines l) where
-    others_line : (i : ℕ) (t : Played) (version : ℕ) → slice_get played i ≡ Some t → t.row.outcome ≡ out.Moved version → (2 ≤ version) × SomeTurn played (IsBeside t)
+  -- where a line found another's, another node has a part in its phase
+  module _ (size : length looks ≡ length lines) (fault_lines : List FaultLine) (beside : (i : ℕ) (l : NamedLine) (version : ℕ) → slice_get lines i ≡ Some l → slice_get looks i ≡ Some (Some (looked.Extended (Moved version))) → HasBeside lines fault_lines l) where
+    others_line : (i : ℕ) (t : Played) (version : ℕ) → slice_get played i ≡ Some t → t.row.outcome ≡ out.Moved version → (2 ≤ version) × (SomeTurn played (IsBeside t) ⊎ IsStoppedBeside fault_lines t)
     others_line i t version at is =
         let c = came i t (Moved version) at (ap extension_in is) in
         let node = there i t at in
@@ -315,19 +317,23 @@ module _ (law : Law) (lines : List NamedLine) (home : ℕ → ℕ) (run : NodeCo
         let first = version_least law (moment run t.line.phase)
         (grown_legal law (moment run t.line.phase) run.seen (run_seen law lines home (length workers) run looks courses join t.line.node node.0 node.1 t.line.phase)
         (run_legal law lines home (length workers) run looks courses join (let low = node.0 in let high = node.1 in omega (arith, low, high)))) in
-        let b = beside i t.line version c.is c.looked in
-        let u = turn_of played b.at b.line (ap (λ ls. slice_get ls b.at) (rows_lines lines rows looks are.size size) ∙ b.is) in (
+        let b = beside i t.line version c.is c.looked in (
           omega (arith, above, first),
-          record {
-            at = b.at;
-            turn = u.0;
-            is = u.1;
-            so = record { phase_is = ap (λ (l : NamedLine). l.phase) u.2 ∙ b.phase_is; another = λ same. b.another (sym (ap (λ (l : NamedLine). l.node) u.2) ∙ same) };
-          },
+          ⊎_elim
+              (λ (k : HasLineIn lines t.line.phase b.node).
+              let u = turn_of played k.at k.line (ap (λ ls. slice_get ls k.at) (rows_lines lines rows looks are.size size) ∙ k.is) in
+              inl (record {
+                at = k.at;
+                turn = u.0;
+                is = u.1;
+                so = record { phase_is = ap (λ (l : NamedLine). l.phase) u.2 ∙ k.phase_is; another = λ same. b.another (sym k.node_is ∙ sym (ap (λ (l : NamedLine). l.node) u.2) ∙ same) };
+              }))
+              (λ (k : HasStopIn fault_lines t.line.phase b.node). inr (record { at = k.at; line = k.line; is = k.is; phase_is = k.phase_is; node = b.node; after = k.after; asks_is = k.asks_is; another = b.another }))
+              b.part,
         )
 
     -- what the run has of its lines, the rows tell of the chain that is told
-    pub replacements : 1 ≤ length workers → (version : ℕ) (chain : Chain) (cells : ℕ) → (state_of run.seen).register.version ≡ version → (state_of run.seen).register.chain ≡ chain → length law.shelf ≡ cells → Replacements played version chain cells
+    pub replacements : 1 ≤ length workers → (version : ℕ) (chain : Chain) (cells : ℕ) → (state_of run.seen).register.version ≡ version → (state_of run.seen).register.chain ≡ chain → length law.shelf ≡ cells → Replacements played fault_lines version chain cells
     replacements some version chain cells same is cells_is = record {
       each = λ i t at. replaced_from version chain cells (state_of run.seen).register t.row.outcome same is (λ x says.
           subst (λ n. StandsSo (state_of run.seen).register n x) cells_is

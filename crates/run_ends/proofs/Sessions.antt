@@ -7,6 +7,7 @@ use Rattle.legal_journal.specs.declared.events.Event.{Event}
 use Rattle.legal_journal.specs.Journal.{IsLegal}
 use Rattle.replica_api.specs.Replica.{Meaning}
 use Rattle.script_text.specs.declared.asks.NamedLine.{NamedLine}
+use Rattle.script_text.specs.declared.faults.FaultLine.{FaultLine}
 use Rattle.row_text.specs.declared.row.Row.{Row}
 use Rattle.node_lines.specs.declared.desk.Desk.{Desk}
 use Rattle.node_lines.specs.Answered.{AreAllAnswers}
@@ -23,7 +24,7 @@ use Rattle.run_ends.specs.Rows.{AreRows, played_of}
 use Rattle.run_ends.specs.Ends.{answered_of, desk_in, end_at, end_of}
 use Rattle.run_ends.proofs.Turns.{lines_are, some_at, turn_of}
 
-module _ (law : Law) (meaning : Meaning) (lines : List NamedLine) (journal : List Event) (looks : List (Option Looked)) (log : List Entry) (workers : List WorkerEnd) (h : HasClosed law meaning lines journal looks log workers) where
+module _ (law : Law) (meaning : Meaning) (lines : List NamedLine) (fault_lines : List FaultLine) (journal : List Event) (looks : List (Option Looked)) (log : List Entry) (workers : List WorkerEnd) (h : HasClosed law meaning lines fault_lines journal looks log workers) where
   -- there is a node
   pub some : 1 ≤ length workers
   some = let least = h.lines_are.there 0 in let most = h.lines_are.within 0 in omega (arith, least, most)

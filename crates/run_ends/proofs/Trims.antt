@@ -23,6 +23,7 @@ use Rattle.log_laws.proofs.Membership.{least_some, least_upto, left_says, point_
 use Rattle.script_text.specs.declared.line.Admin.{Admin}
 use Rattle.script_text.specs.declared.line.Admin.TheVariants.{Extend, Alive, Retire, Trim}
 use Rattle.script_text.specs.declared.asks.NamedLine.{NamedLine}
+use Rattle.script_text.specs.declared.faults.FaultLine.{FaultLine}
 use Rattle.script_text.specs.declared.asks.Asks.{Asks}
 use Rattle.script_text.specs.declared.asks.Asks.TheVariants as asks
 use Rattle.row_text.specs.declared.row.Outcome.{Outcome}
@@ -118,7 +119,7 @@ who_there lines home nodes are who c h = by c h
     by (content.Leave node) k = line_there k.1.at k.1.line k.1.is k.1.node
     by (content.Trim position) k = line_there k.at k.line k.is k.node
 
-module _ (law : Law) (meaning : Meaning) (run : MayRun law) (lines : List NamedLine) (journal : List Event) (looks : List (Option Looked)) (log : List Entry) (workers : List WorkerEnd) (o : Told) (yard : Shown) (mine : (who : ℕ) (e : Entry) → law.may who e → may_of lines who e) (floor_is : FloorIs law.floor (length workers)) (h : HasClosed law meaning lines journal looks log workers) (are : AreRows lines workers looks o.rows) (back : IsGivenBack law journal workers o.chain yard) where
+module _ (law : Law) (meaning : Meaning) (run : MayRun law) (lines : List NamedLine) (fault_lines : List FaultLine) (journal : List Event) (looks : List (Option Looked)) (log : List Entry) (workers : List WorkerEnd) (o : Told) (yard : Shown) (mine : (who : ℕ) (e : Entry) → law.may who e → may_of lines who e) (floor_is : FloorIs law.floor (length workers)) (h : HasClosed law meaning lines fault_lines journal looks log workers) (are : AreRows lines workers looks o.rows) (back : IsGivenBack law journal workers o.chain yard) where
   abbrev played : List Played
   played = played_of lines o.rows looks
 
@@ -304,7 +305,7 @@ module _ (law : Law) (meaning : Meaning) (run : MayRun law) (lines : List NamedL
   -- Lines and their rows
 
   played_lines : map (λ t. t.line) played ≡ lines
-  played_lines = lines_are lines o.rows looks are.size (looks_size law meaning lines journal looks log workers h)
+  played_lines = lines_are lines o.rows looks are.size (looks_size law meaning lines fault_lines journal looks log workers h)
 
   -- a line with its row
   turn_at : (at : ℕ) (line : NamedLine) → slice_get lines at ≡ Some line → (t : Played) × (slice_get played at ≡ Some t) × (t.line ≡ line)

@@ -14,6 +14,7 @@ use Rattle.virtual_log.specs.declared.extend.Extension.TheVariants.{Moved}
 use Rattle.replica_api.specs.Replica.{Meaning}
 use Rattle.base_engine.specs.Reading.{IsFront}
 use Rattle.script_text.specs.declared.asks.NamedLine.{NamedLine}
+use Rattle.script_text.specs.declared.faults.FaultLine.{FaultLine}
 use Rattle.fitting_run.specs.Yard.{Shown}
 use Rattle.fitting_run.specs.Faults.{disk_faults}
 use Rattle.turn_scopes.specs.Seats.{SeatView}
@@ -23,18 +24,16 @@ use Rattle.node_lines.specs.declared.lines.Looked.{Looked}
 use Rattle.node_lines.specs.declared.lines.Looked.TheVariants as looked
 use Rattle.node_course.specs.Script.{AreLines}
 use Rattle.node_course.specs.Moments.{NodeCourse}
-use Rattle.node_course.specs.Telling.{AreBehind}
+use Rattle.node_course.specs.FaultLines.{HasPartIn}
 use Rattle.node_course.specs.Joined.{AreJoined}
 use Rattle.node_course.specs.Telling.{AreBehind}
 use Rattle.node_course.specs.Workers.{Rests}
 
--- another node has a line in the phase of this one
-pub record HasBeside (lines : List NamedLine) (l : NamedLine) : Type 0 where
-  pub at : ℕ
-  pub line : NamedLine
-  pub is : slice_get lines at ≡ Some line
-  pub phase_is : line.phase ≡ l.phase
-  pub another : line.node ≢ l.node
+-- another node has a part in the phase of this line: a line of its own, or one by which its disk is stopped
+pub record HasBeside (lines : List NamedLine) (faults : List FaultLine) (l : NamedLine) : Type 0 where
+  pub node : ℕ
+  pub part : HasPartIn lines faults l.phase node
+  pub another : node ≢ l.node
 
 -- a node with its sessions
 pub record WorkerEnd : Type 0 where
@@ -56,7 +55,7 @@ pub record WorkerClosed (law : Law) (meaning : Meaning) (lines : List NamedLine)
   pub size : length w.desks ≡ length was
   pub each : (s : ℕ) (d : Desk) → slice_get was s ≡ Some d → DeskClosed log s d w.desks
 
-pub record HasClosed (law : Law) (meaning : Meaning) (lines : List NamedLine) (journal : List Event) (looks : List (Option Looked)) (log : List Entry) (workers : List WorkerEnd) : Type 0 where
+pub record HasClosed (law : Law) (meaning : Meaning) (lines : List NamedLine) (faults : List FaultLine) (journal : List Event) (looks : List (Option Looked)) (log : List Entry) (workers : List WorkerEnd) : Type 0 where
   pub home : ℕ → ℕ
   -- the run, and each node's own course of it
   pub run : NodeCourse
@@ -67,8 +66,8 @@ pub record HasClosed (law : Law) (meaning : Meaning) (lines : List NamedLine) (j
   pub over : (i : ℕ) (l : NamedLine) → slice_get lines i ≡ Some l → l.phase < run.phase
   pub front : IsFront Holds journal log
   pub each : (j : ℕ) (w : WorkerEnd) → slice_get workers j ≡ Some w → WorkerClosed law meaning lines home (length workers) (courses (j + 1)) looks log (j + 1) w
-  -- where a line found that another node had replaced the last loglet, another has a line in its phase
-  pub beside : (i : ℕ) (l : NamedLine) (version : ℕ) → slice_get lines i ≡ Some l → slice_get looks i ≡ Some (Some (looked.Extended (Moved version))) → HasBeside lines l
+  -- where a line found that another node had replaced the last loglet, another has a part in its phase
+  pub beside : (i : ℕ) (l : NamedLine) (version : ℕ) → slice_get lines i ≡ Some l → slice_get looks i ≡ Some (Some (looked.Extended (Moved version))) → HasBeside lines faults l
   -- nobody but nodes began a Seal
   pub seals : (e : Event) → Contains journal e → begins_seal e ≡ true → (1 ≤ e.who) × (e.who ≤ length workers)
   -- each report stands behind what it reports, and each trim that is asked for behind its position

@@ -1,6 +1,5 @@
 pub mod Closing
 pub mod Rows
 pub mod Ends
-pub mod Reads
 pub mod Rules
 pub mod Told

@@ -5,9 +5,9 @@ ghost use Rattle.delos_types.specs.declared.entry.Entry.{Entry};
 ghost use Rattle.legal_journal.specs.declared.events.Event.{Event};
 ghost use Rattle.legal_journal.specs.Journal.{IsLegal, state_of};
 ghost use Rattle.journal_laws.specs.Faults.{faults_in};
-ghost use Rattle.turn_scopes.specs.Alone.{AreOwn};
 ghost use Rattle.row_text.specs.declared.row.Row.{Row};
 ghost use Rattle.script_text.specs.declared.asks.NamedLine.{NamedLine};
+ghost use Rattle.script_text.specs.declared.faults.FaultLine.{FaultLine};
 ghost use Rattle.fabric_core.specs.Fabric.{IsRegisterAsTold};
 ghost use Rattle.fitting_run.specs.declared.told.Told.{Told};
 ghost use Rattle.fitting_run.specs.Yard.{Shown};
@@ -20,8 +20,8 @@ ghost use Rattle.run_laws.specs.Ended.{LineEnded, SessionEnded, AllAfter, Faults
 ghost use Rattle.run_ends.specs.Closing.{WorkerEnd, HasClosed, IsGivenBack};
 ghost use Rattle.run_ends.specs.Rows.{AreRows, CanTell, played_of};
 ghost use Rattle.run_ends.specs.Ends.{end_of};
-ghost use Rattle.run_ends.specs.Reads.{AreReads};
 ghost use Rattle.run_ends.specs.Told.{GoesAsTold};
+ghost use Rattle.node_course.specs.FaultLines.{AreOutside};
 ghost use Rattle.node_course.specs.Moments.{tails};
 
 use crate::shown::the_log_stands;
@@ -36,8 +36,8 @@ use replica_api::replica::Replica;
 
 /// Each fault that came was counted, and stands in the yard.
 pub fn the_faults_were_counted<P: Rules, S: Replica>()
-    ensures { MayRun P.law → (lines : List NamedLine) (rows : List Row) (journal : List Event) (looks : List (Option Looked)) (log : List Entry) (workers : List WorkerEnd) (o : Told) (yard : Shown)
-        → (h : HasClosed P.law S.meaning lines journal looks log workers)
+    ensures { MayRun P.law → (lines : List NamedLine) (faults : List FaultLine) (rows : List Row) (journal : List Event) (looks : List (Option Looked)) (log : List Entry) (workers : List WorkerEnd) (o : Told) (yard : Shown)
+        → (h : HasClosed P.law S.meaning lines faults journal looks log workers)
         → AreRows lines workers looks rows → IsGivenBack P.law journal workers o.chain yard
         → FaultsCame (played_of lines rows looks) h.run.faults yard }
 {
@@ -50,15 +50,15 @@ pub fn the_faults_were_counted<P: Rules, S: Replica>()
 
 /// Each line can be told: its command was answered, or its session was stopped; its read was played.
 pub fn what_closed_can_be_told<P: Rules, S: Replica>()
-    ensures { MayRun P.law → (lines : List NamedLine) (journal : List Event) (looks : List (Option Looked)) (log : List Entry) (workers : List WorkerEnd)
-        → HasClosed P.law S.meaning lines journal looks log workers → CanTell lines workers looks }
+    ensures { MayRun P.law → (lines : List NamedLine) (faults : List FaultLine) (journal : List Event) (looks : List (Option Looked)) (log : List Entry) (workers : List WorkerEnd)
+        → HasClosed P.law S.meaning lines faults journal looks log workers → CanTell lines workers looks }
 {}
 
 /// Each line ended as its row says.
 pub fn each_line_has_ended<P: Rules, S: Replica>()
-    ensures { MayRun P.law → (lines : List NamedLine) (rows : List Row) (journal : List Event) (looks : List (Option Looked)) (log : List Entry) (workers : List WorkerEnd)
+    ensures { MayRun P.law → (lines : List NamedLine) (faults : List FaultLine) (rows : List Row) (journal : List Event) (looks : List (Option Looked)) (log : List Entry) (workers : List WorkerEnd)
         → ((who : ℕ) (e : Entry) → P.law.may who e → may_of lines who e)
-        → (h : HasClosed P.law S.meaning lines journal looks log workers)
+        → (h : HasClosed P.law S.meaning lines faults journal looks log workers)
         → AreRows lines workers looks rows
         → AllAfter (LineEnded log (tails h.run) h.run.faults (end_of lines workers h.home h.run.when)) [] (played_of lines rows looks) }
 {
@@ -67,8 +67,8 @@ pub fn each_line_has_ended<P: Rules, S: Replica>()
 
 /// Each session ended, stopped by a fault or not.
 pub fn each_session_has_ended<P: Rules, S: Replica>()
-    ensures { MayRun P.law → (lines : List NamedLine) (rows : List Row) (journal : List Event) (looks : List (Option Looked)) (log : List Entry) (workers : List WorkerEnd) (s : ℕ)
-        → (h : HasClosed P.law S.meaning lines journal looks log workers)
+    ensures { MayRun P.law → (lines : List NamedLine) (faults : List FaultLine) (rows : List Row) (journal : List Event) (looks : List (Option Looked)) (log : List Entry) (workers : List WorkerEnd) (s : ℕ)
+        → (h : HasClosed P.law S.meaning lines faults journal looks log workers)
         → AreRows lines workers looks rows
         → SessionEnded (played_of lines rows looks) h.run.faults h.home s (end_of lines workers h.home h.run.when s) }
 {}
@@ -76,19 +76,19 @@ pub fn each_session_has_ended<P: Rules, S: Replica>()
 /// The last loglet of the chain is at least each node's number of rows that tell a version, and at most the number of all of those,
 /// where no fault came. Where nothing is trimmed each loglet up to it has a segment.
 pub fn each_segment_is_told<P: Rules, S: Replica>()
-    ensures { (lines : List NamedLine) (rows : List Row) (journal : List Event) (looks : List (Option Looked)) (log : List Entry) (workers : List WorkerEnd)
-        → HasClosed P.law S.meaning lines journal looks log workers → AreRows lines workers looks rows
+    ensures { (lines : List NamedLine) (faults : List FaultLine) (rows : List Row) (journal : List Event) (looks : List (Option Looked)) (log : List Entry) (workers : List WorkerEnd)
+        → HasClosed P.law S.meaning lines faults journal looks log workers → AreRows lines workers looks rows
         → GoesAsTold (played_of lines rows looks) rows (length workers) (faults_in journal) (state_of journal).register.chain }
 {}
 
 /// A run whose nodes have closed has ended.
 pub fn what_closed_has_ended<P: Rules, S: Replica>()
-    ensures { MayRun P.law → (lines : List NamedLine) (journal : List Event) (looks : List (Option Looked)) (log : List Entry) (workers : List WorkerEnd) (o : Told) (yard : Shown)
+    ensures { MayRun P.law → (lines : List NamedLine) (faults : List FaultLine) (journal : List Event) (looks : List (Option Looked)) (log : List Entry) (workers : List WorkerEnd) (o : Told) (yard : Shown)
         → ((who : ℕ) (e : Entry) → P.law.may who e → may_of lines who e) → FloorIs P.law.floor (length workers)
-        → HasClosed P.law S.meaning lines journal looks log workers
+        → HasClosed P.law S.meaning lines faults journal looks log workers
         → AreRows lines workers looks o.rows → o.end ≡ length log → IsGivenBack P.law journal workers o.chain yard
         → IsRegisterAsTold (state_of journal).register yard.register → ChainIsRegistered o yard.register
-        → (map (λ t. t.line) (played_of lines o.rows looks) ≡ lines) × RunEnded (played_of lines o.rows looks) o yard }
+        → (map (λ t. t.line) (played_of lines o.rows looks) ≡ lines) × RunEnded (played_of lines o.rows looks) faults o yard }
 {
     the_faults_were_counted::<P, S>();
     each_line_has_ended::<P, S>();
@@ -97,10 +97,11 @@ pub fn what_closed_has_ended<P: Rules, S: Replica>()
     what_is_trimmed_was_told::<P>();
 }
 
-/// A run whose nodes have closed stays so as its chain is read, by a user that is no node.
+/// A run whose nodes have closed stays so by events of a user that is no node: its chain is read, something is broken or mended, or an old
+/// message comes again.
 pub fn reads_change_nothing<P: Rules, S: Replica>()
-    ensures { (lines : List NamedLine) (journal more : List Event) (looks : List (Option Looked)) (log : List Entry) (workers : List WorkerEnd)
-        → HasClosed P.law S.meaning lines journal looks log workers
-        → AreOwn 0 more → AreReads more → IsLegal P.law (journal ++ more)
-        → HasClosed P.law S.meaning lines (journal ++ more) looks log workers }
+    ensures { (lines : List NamedLine) (faults : List FaultLine) (journal more : List Event) (looks : List (Option Looked)) (log : List Entry) (workers : List WorkerEnd)
+        → HasClosed P.law S.meaning lines faults journal looks log workers
+        → AreOutside more → IsLegal P.law (journal ++ more)
+        → HasClosed P.law S.meaning lines faults (journal ++ more) looks log workers }
 {}

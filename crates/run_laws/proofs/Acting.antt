@@ -17,6 +17,7 @@ use Rattle.engine_api.specs.Order.{acted_after, is_clean}
 use Rattle.engine_api.proofs.Appends.{acted_log-append}
 use Rattle.log_laws.specs.State.{acts_in}
 use Rattle.fabric_core.specs.Log.{numbers, virtual_log, virtual_log_at, virtual_tail}
+use Rattle.script_text.specs.declared.faults.FaultLine.{FaultLine}
 use Rattle.fitting_run.specs.declared.told.Told.{Told}
 use Rattle.fitting_run.specs.Yard.{Shown}
 use Rattle.fitting_run.specs.Tests.{◌⇒◌, each_pair}
@@ -209,14 +210,14 @@ shown-acts lines told chain cells end h low =
       shown = rw (acts, shown) cut.from;
     }
 
-pub acts-once : (played : List Played) (o : Told) (yard : Shown) → RunEnded played o yard → ActsOnce (map (λ t. t.line) played) (told_of (map (λ t. t.line) played) o) o.chain yard.cells o.end
-acts-once played o yard e =
+pub acts-once : (played : List Played) (fault_lines : List FaultLine) (o : Told) (yard : Shown) → RunEnded played fault_lines o yard → ActsOnce (map (λ t. t.line) played) (told_of (map (λ t. t.line) played) o) o.chain yard.cells o.end
+acts-once played fault_lines o yard e =
     let told : told_of (map (λ (t : Played). t.line) played) o ≡ map tell played = told-is played o e.rows in
     record {
       log = e.log;
       size = sym e.end;
       holds = rw e.end e.asked;
-      acts = ap placed_acts told ∙ placed-are_acts played o yard e;
+      acts = ap placed_acts told ∙ placed-are_acts played fault_lines o yard e;
       shown = ap (virtual_log o.chain yard.cells o.chain.trim) e.end ∙ e.stands.entries;
       clean = e.stands.clean;
       whole = e.stands.whole;

@@ -5,6 +5,7 @@ use Rattle.std.proofs.lemmas.List.Sums.{sum_by-cons}
 use Rattle.delos_types.specs.declared.cause.Cause.{Cause}
 use Rattle.delos_types.specs.declared.cause.Cause.TheVariants as cause
 use Rattle.loglet_api.specs.View.{LogletView}
+use Rattle.script_text.specs.declared.faults.FaultLine.{FaultLine}
 use Rattle.row_text.specs.declared.row.Row.{Row}
 use Rattle.row_text.specs.declared.row.Outcome.{Outcome}
 use Rattle.row_text.specs.declared.row.Outcome.TheVariants as out
@@ -52,7 +53,7 @@ answered-from (out.Placed place reply late) shut timely = not_from_false late (f
 answered-from (out.Open k) shut timely = absurd (shut k refl)
 answered-from o shut timely = refl
 
-module _ (played : List Played) (o : Told) (yard : Shown) (e : RunEnded played o yard) (calm : IsCalm yard) where
+module _ (played : List Played) (fault_lines : List FaultLine) (o : Told) (yard : Shown) (e : RunEnded played fault_lines o yard) (calm : IsCalm yard) where
   -- no cause stands, but that of a full loglet, and no full loglet refused anything
   no-cause : (node : ℕ) (k : Cause) → stands yard node k ≡ true → ((id : ℕ) → k ≡ cause.Full id → 1 ≤ counted (finds_full id) played e.faults) → ⊥
   no-cause node (cause.NoQuorum id unreached) h full =
@@ -68,7 +69,7 @@ module _ (played : List Played) (o : Told) (yard : Shown) (e : RunEnded played o
   none-came : (k : Cause) (node phase : ℕ) → CameTo e.faults k node phase → ⊥
   none-came k node phase c =
       let f : Fault = c.fault in
-      no-cause node k (came-stands played o yard e k node phase c) (λ id is.
+      no-cause node k (came-stands played fault_lines o yard e k node phase c) (λ id is.
       let found : finds_full id f.node f.cause ≡ true = ap (finds_full id f.node) (c.cause_is ∙ is) ∙ eq-eqb id id refl in
       let one = some-counted (λ (f : Fault). finds_full id f.node f.cause) e.faults f (contained-among e.faults f c.among) found in
       omega (arith, one))
@@ -80,21 +81,21 @@ module _ (played : List Played) (o : Told) (yard : Shown) (e : RunEnded played o
       let one = some-counted (paid_by (finds_full id)) played t m found in
       omega (arith, one))
 
-  row-answered : (before : List Played) (t : Played) → Ended played o yard e before t → is_answered t.row.outcome ≡ true
+  row-answered : (before : List Played) (t : Played) → Ended played fault_lines o yard e before t → is_answered t.row.outcome ≡ true
   row-answered before t h =
-      let m = ended-among played o yard e before t h in
+      let m = ended-among played fault_lines o yard e before t h in
       answered-from t.row.outcome
-      (λ k is. elim (has-cause played o yard e before t k h is) [
+      (λ k is. elim (has-cause played fault_lines o yard e before t k h is) [
         | inl paid ↦ none-paid t k m paid
         | inr more ↦ elim more.1 [
-          | inl stopped ↦ none-came k t.line.node (e.ends (session_in t.line.asks)).when (stop-came played o yard e t k m more.0 stopped.0)
+          | inl stopped ↦ none-came k t.line.node (e.ends (session_in t.line.asks)).when (stop-came played fault_lines o yard e t k m more.0 stopped.0)
           | inr came ↦ none-came k t.line.node t.line.phase came.1
         ]
       ])
-      (λ late. let c = late-came played o yard e before t h late in none-came c.0 t.line.node t.line.phase c.1)
+      (λ late. let c = late-came played fault_lines o yard e before t h late in none-came c.0 t.line.node t.line.phase c.1)
 
   pub calm-answers : all_answered o.rows ≡ true
   calm-answers =
       ap all_answered e.rows
       ∙ all-test (λ (t : Played). t.row) (λ (r : Row). is_answered r.outcome) played
-      (after-each (Ended played o yard e) (λ t. is_answered t.row.outcome ≡ true) [] played row-answered (all_ended played o yard e))
+      (after-each (Ended played fault_lines o yard e) (λ t. is_answered t.row.outcome ≡ true) [] played row-answered (all_ended played fault_lines o yard e))

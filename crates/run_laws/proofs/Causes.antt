@@ -6,6 +6,7 @@ use Rattle.delos_types.specs.declared.cause.Cause.{Cause}
 use Rattle.script_text.specs.declared.line.Admin.TheVariants.{Extend, Alive, Trim, Retire}
 use Rattle.script_text.specs.declared.asks.Asks.{Asks}
 use Rattle.script_text.specs.declared.asks.Asks.TheVariants as asks
+use Rattle.script_text.specs.declared.faults.FaultLine.{FaultLine}
 use Rattle.row_text.specs.declared.row.Outcome.{Outcome}
 use Rattle.row_text.specs.declared.row.Outcome.TheVariants as out
 use Rattle.fitting_run.specs.declared.told.Told.{Told}
@@ -88,7 +89,7 @@ pub some-of : (o : Option Cause) → IsSome o → (k : Cause) × (o ≡ Some k)
 some-of None h = absurd (both_ways false refl h)
 some-of (Some k) h = (k, refl)
 
-module _ (played : List Played) (o : Told) (yard : Shown) (e : RunEnded played o yard) where
+module _ (played : List Played) (fault_lines : List FaultLine) (o : Told) (yard : Shown) (e : RunEnded played fault_lines o yard) where
   abbrev pub Ended : List Played → Played → Type 0
   Ended before t = Cut played before t × LineEnded e.log e.tails e.faults e.ends before t
 
@@ -127,7 +128,7 @@ module _ (played : List Played) (o : Told) (yard : Shown) (e : RunEnded played o
   broken-came before t h logged broken early k stopped =
       let s = session_in t.line.asks in
       let m = ended-among before t h in
-      let st = broken-stopped played o yard e t m logged broken in
+      let st = broken-stopped played fault_lines o yard e t m logged broken in
       let low = st.1 in
       elim (cases_lt (e.ends s).when t.line.phase) [
         | inl before_it ↦ absurd (early before_it)
@@ -141,6 +142,6 @@ module _ (played : List Played) (o : Told) (yard : Shown) (e : RunEnded played o
       let m = ended-among before t h in
       let l = late-logged e.log e.tails e.faults e.ends before t t.line.asks t.row.outcome h.1.came late in
       let broken : is_broken (tell t) ≡ true = rw l.1 late in
-      let st = broken-stopped played o yard e t m l.0 broken in
+      let st = broken-stopped played fault_lines o yard e t m l.0 broken in
       let k = some-of (e.ends s).stopped st.0 in
       (k.0, broken-came before t h l.0 broken (λ early. both_ways (is_open t.row.outcome) l.1 (ap is_open (h.1.stopped (logged-session t.line.asks l.0) k.0 k.1 early))) k.0 k.1)

@@ -11,6 +11,7 @@ use Rattle.log_laws.specs.State.{acts_in}
 use Rattle.script_text.specs.declared.line.Admin.TheVariants.{Extend, Alive, Trim, Retire}
 use Rattle.script_text.specs.declared.asks.Asks.{Asks}
 use Rattle.script_text.specs.declared.asks.Asks.TheVariants as asks
+use Rattle.script_text.specs.declared.faults.FaultLine.{FaultLine}
 use Rattle.row_text.specs.declared.row.Outcome.{Outcome}
 use Rattle.row_text.specs.declared.row.Outcome.TheVariants as out
 use Rattle.fitting_run.specs.declared.answered.Answered.{Answered}
@@ -71,7 +72,7 @@ answered-on_time log tails faults ends before t (asks.Logged s r c) o h l low = 
 answered-on_time log tails faults ends before t (asks.Look s q) o h l low = absurd (both_ways false refl l)
 answered-on_time log tails faults ends before t (asks.Admin a) o h l low = absurd (both_ways false refl l)
 
-module _ (played : List Played) (o : Told) (yard : Shown) (e : RunEnded played o yard) where
+module _ (played : List Played) (fault_lines : List FaultLine) (o : Told) (yard : Shown) (e : RunEnded played fault_lines o yard) where
   -- whether the act of a line stands below a position, told by the first rank that is missing there
   below-is : (t : Played) (p : Place) (x : IsOnTime e.log e.tails t.line.phase t.line.asks p) (n after : ℕ) → after ≤ length e.log → rank_in t.line.asks ≡ n + 1
       → nat_lt p.pos after ≡ nat_lt (n + 1) (gap_from (asked_in 0 (take after e.log)) (session_in t.line.asks) 1)
@@ -83,8 +84,8 @@ module _ (played : List Played) (o : Told) (yard : Shown) (e : RunEnded played o
       ∙ ap (λ r. nat_lt r (gap_from (asked_in 0 (take after e.log)) act.session 1)) (its.rank ∙ rank)
       ∙ ap (λ s. nat_lt (n + 1) (gap_from (asked_in 0 (take after e.log)) s 1)) its.session
 
-  sees-earlier : (b : List Played) (t : Played) (mid : List Played) (u : Played) → Turn played o yard e b t → session_in t.line.asks ≡ session_in u.line.asks
-      → (p : Place) (after : ℕ) → OnTime played o yard e t p → Looked played o yard e (b ++ t ∷ mid) u after → nat_lt p.pos after ≡ true
+  sees-earlier : (b : List Played) (t : Played) (mid : List Played) (u : Played) → Turn played fault_lines o yard e b t → session_in t.line.asks ≡ session_in u.line.asks
+      → (p : Place) (after : ℕ) → OnTime played fault_lines o yard e t p → Looked played fault_lines o yard e (b ++ t ∷ mid) u after → nat_lt p.pos after ≡ true
   sees-earlier b t mid u h session p after x y =
       let n = logged_by (session_in t.line.asks) b in
       let gap = gap_from (asked_in 0 (take after e.log)) in
@@ -92,8 +93,8 @@ module _ (played : List Played) (o : Told) (yard : Shown) (e : RunEnded played o
       let more = logged-own (session_in u.line.asks) b t mid session x.logged in
       below-is t p x n after y.within (h.1 x.logged) ∙ lt-ltb (n + 1) (gap (session_in t.line.asks) 1) (omega (arith, sees, more))
 
-  sees-no_later : (b : List Played) (t : Played) (mid : List Played) (u : Played) → Turn played o yard e (b ++ t ∷ mid) u → session_in t.line.asks ≡ session_in u.line.asks
-      → (after : ℕ) (q : Place) → Looked played o yard e b t after → OnTime played o yard e u q → nat_le after q.pos ≡ true
+  sees-no_later : (b : List Played) (t : Played) (mid : List Played) (u : Played) → Turn played fault_lines o yard e (b ++ t ∷ mid) u → session_in t.line.asks ≡ session_in u.line.asks
+      → (after : ℕ) (q : Place) → Looked played fault_lines o yard e b t after → OnTime played fault_lines o yard e u q → nat_le after q.pos ≡ true
   sees-no_later b t mid u k session after q x y =
       let n = logged_by (session_in u.line.asks) (b ++ t ∷ mid) in
       let gap = gap_from (asked_in 0 (take after e.log)) in
@@ -101,7 +102,7 @@ module _ (played : List Played) (o : Told) (yard : Shown) (e : RunEnded played o
       let more = logged-more (session_in u.line.asks) b t mid session in
       le-leb after q.pos (ltb-false q.pos after (below-is u q y n after x.within (k.1 y.logged) ∙ le-ltb (n + 1) (gap (session_in u.line.asks) 1) (omega (arith, sees, more))))
 
-  looks-ordered : (b : List Played) (t : Played) (mid : List Played) (u : Played) → Turn played o yard e b t → Turn played o yard e (b ++ t ∷ mid) u → looks_in_order (tell t) (tell u) ≡ true
+  looks-ordered : (b : List Played) (t : Played) (mid : List Played) (u : Played) → Turn played fault_lines o yard e b t → Turn played fault_lines o yard e (b ++ t ∷ mid) u → looks_in_order (tell t) (tell u) ≡ true
   looks-ordered b t mid u h k =
       let above = on_time t.row.outcome (λ p. on_read u.row.outcome (λ after. nat_lt p.pos after)) in
       let below = on_read t.row.outcome (λ after. on_time u.row.outcome (λ q. nat_le after q.pos)) in
@@ -110,13 +111,13 @@ module _ (played : List Played) (o : Told) (yard : Shown) (e : RunEnded played o
       and_from above below
       (where_some-from (place_on_time t.row.outcome) (λ p. on_read u.row.outcome (λ after. nat_lt p.pos after))
       (λ p is. where_some-from (looked_at u.row.outcome) (λ after. nat_lt p.pos after)
-      (λ after it. sees-earlier b t mid u h session p after (turn-on_time played o yard e b t h p is) (turn-looked played o yard e (b ++ t ∷ mid) u k after it))))
+      (λ after it. sees-earlier b t mid u h session p after (turn-on_time played fault_lines o yard e b t h p is) (turn-looked played fault_lines o yard e (b ++ t ∷ mid) u k after it))))
       (where_some-from (looked_at t.row.outcome) (λ after. on_time u.row.outcome (λ q. nat_le after q.pos))
       (λ after is. where_some-from (place_on_time u.row.outcome) (λ q. nat_le after q.pos)
-      (λ q it. sees-no_later b t mid u k session after q (turn-looked played o yard e b t h after is) (turn-on_time played o yard e (b ++ t ∷ mid) u k q it)))))
+      (λ q it. sees-no_later b t mid u k session after q (turn-looked played fault_lines o yard e b t h after is) (turn-on_time played fault_lines o yard e (b ++ t ∷ mid) u k q it)))))
 
   -- a read that was answered saw each earlier command of its session, which is answered in its phase
-  kept-open : (b : List Played) (t : Played) (mid : List Played) (u : Played) → Turn played o yard e b t → Turn played o yard e (b ++ t ∷ mid) u → is_kept_open (tell t) (tell u) ≡ true
+  kept-open : (b : List Played) (t : Played) (mid : List Played) (u : Played) → Turn played fault_lines o yard e b t → Turn played fault_lines o yard e (b ++ t ∷ mid) u → is_kept_open (tell t) (tell u) ≡ true
   kept-open b t mid u h k =
       let session = same_session (tell t) (tell u) in
       let timely = is_placed_on_time (tell t) in
@@ -148,18 +149,18 @@ module _ (played : List Played) (o : Told) (yard : Shown) (e : RunEnded played o
   told-current : ReadsAreCurrent (map tell played) o.end
   told-current = record {
     within = all-test tell (λ a. on_read a.row.outcome (λ after. nat_le after o.end)) played
-        (after-each (Turn played o yard e) (λ t. on_read t.row.outcome (λ after. nat_le after o.end) ≡ true) [] played
+        (after-each (Turn played fault_lines o yard e) (λ t. on_read t.row.outcome (λ after. nat_le after o.end) ≡ true) [] played
         (λ b t h. where_some-from (looked_at t.row.outcome) (λ after. nat_le after o.end)
-        (λ after is. let low = (turn-looked played o yard e b t h after is).within in let end = e.end in le-leb after o.end (omega (arith, low, end)))) (all_turns played o yard e));
+        (λ after is. let low = (turn-looked played fault_lines o yard e b t h after is).within in let end = e.end in le-leb after o.end (omega (arith, low, end)))) (all_turns played fault_lines o yard e));
     shows = all-map tell (λ a. Shows (map tell played) a.line.asks a.row.outcome) played
-        (after-each (Turn played o yard e) (λ t. Shows (map tell played) t.line.asks t.row.outcome) [] played
-        (λ b t h. shows-table e.log e.tails e.faults e.ends b t (map tell played) t.line.asks t.row.outcome (placed-are_acts played o yard e) h.0.1.came) (all_turns played o yard e));
+        (after-each (Turn played fault_lines o yard e) (λ t. Shows (map tell played) t.line.asks t.row.outcome) [] played
+        (λ b t h. shows-table e.log e.tails e.faults e.ends b t (map tell played) t.line.asks t.row.outcome (placed-are_acts played fault_lines o yard e) h.0.1.came) (all_turns played fault_lines o yard e));
     order = each_pair-from tell looks_in_order played
-        (pairs-behind (Turn played o yard e) (λ t u. looks_in_order (tell t) (tell u) ≡ true) [] played looks-ordered (all_turns played o yard e));
+        (pairs-behind (Turn played fault_lines o yard e) (λ t u. looks_in_order (tell t) (tell u) ≡ true) [] played looks-ordered (all_turns played fault_lines o yard e));
     forward = each_pair-from tell looks_forward played (pairs-places (λ t u. looks_forward (tell t) (tell u) ≡ true) played looks-forward);
     kept = each_pair-from tell is_kept_open played
-        (pairs-behind (Turn played o yard e) (λ t u. is_kept_open (tell t) (tell u) ≡ true) [] played kept-open (all_turns played o yard e));
+        (pairs-behind (Turn played fault_lines o yard e) (λ t u. is_kept_open (tell t) (tell u) ≡ true) [] played kept-open (all_turns played fault_lines o yard e));
   }
 
-pub reads-current : (played : List Played) (o : Told) (yard : Shown) → RunEnded played o yard → ReadsAreCurrent (told_of (map (λ t. t.line) played) o) o.end
-reads-current played o yard e = subst (λ told. ReadsAreCurrent told o.end) (sym (told-is played o e.rows)) (told-current played o yard e)
+pub reads-current : (played : List Played) (fault_lines : List FaultLine) (o : Told) (yard : Shown) → RunEnded played fault_lines o yard → ReadsAreCurrent (told_of (map (λ t. t.line) played) o) o.end
+reads-current played fault_lines o yard e = subst (λ told. ReadsAreCurrent told o.end) (sym (told-is played o e.rows)) (told-current played fault_lines o yard e)

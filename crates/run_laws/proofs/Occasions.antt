@@ -4,6 +4,7 @@ use Rattle.std.proofs.lemmas.Bool.{and_parts, and_from, and_right, both_ways, no
 use Rattle.std.proofs.lemmas.List.{length-map}
 use Rattle.std.proofs.lemmas.List.Sums.{length-filter}
 use Rattle.delos_types.specs.declared.cause.Cause.{Cause}
+use Rattle.script_text.specs.declared.faults.FaultLine.{FaultLine}
 use Rattle.fitting_run.specs.declared.answered.Answered.{Answered}
 use Rattle.fitting_run.specs.declared.told.Told.{Told}
 use Rattle.fitting_run.specs.Faults.{is_alone, is_opened, occasions, picked}
@@ -44,9 +45,9 @@ occasions-most by told =
     both_ways (is_alone b x) (not-true _ is_not.1) is.1) in
     omega (arith, apart, turns-most (picked others [] told))
 
-module _ (played : List Played) (o : Told) (yard : Shown) (e : RunEnded played o yard) where
-  pub all_ended : AllAfter (Ended played o yard e) [] played
-  all_ended = after-both (Cut played) (LineEnded e.log e.tails e.faults e.ends) (Ended played o yard e) [] played (λ b t cut line. (cut, line)) (cuts [] played) e.lines
+module _ (played : List Played) (fault_lines : List FaultLine) (o : Told) (yard : Shown) (e : RunEnded played fault_lines o yard) where
+  pub all_ended : AllAfter (Ended played fault_lines o yard e) [] played
+  all_ended = after-both (Cut played) (LineEnded e.log e.tails e.faults e.ends) (Ended played fault_lines o yard e) [] played (λ b t cut line. (cut, line)) (cuts [] played) e.lines
 
   module _ (by : ℕ → Cause → Bool) where
     -- a look of its own failed by such a cause, and it isn't an opened row that stands alone
@@ -59,19 +60,19 @@ module _ (played : List Played) (o : Told) (yard : Shown) (e : RunEnded played o
     abbrev turns : List (ℕ × ℕ)
     turns = map (λ (t : Played). turn_of (tell t)) (picked pays_other [] played) ++ map fault_turn caused
 
-    look-pays : (b : List Played) (t : Played) → Ended played o yard e b t → opens_look by (map tell b) (tell t) ≡ true → paid_by by t ≡ true
+    look-pays : (b : List Played) (t : Played) → Ended played fault_lines o yard e b t → opens_look by (map tell b) (tell t) ≡ true → paid_by by t ≡ true
     look-pays b t h opens =
         let both = and_parts (is_opened by (map tell b) (tell t)) (is_alone (map tell b) (tell t)) opens in
-        let w = opened-by played o yard e by b t h both.0 in
+        let w = opened-by played fault_lines o yard e by b t h both.0 in
         elim w.rests [
           | inl paid ↦ ap (pays (by t.line.node)) paid ∙ w.is
           | inr came ↦ absurd (both_ways (is_alone (map tell b) (tell t)) came.0 both.1)
         ]
 
-    other-turn : (b : List Played) (t : Played) → Ended played o yard e b t → (pays_other b t ≡ true → Among (picked pays_other [] played) t) → opens_other by (map tell b) (tell t) ≡ true → Among turns (turn_of (tell t))
+    other-turn : (b : List Played) (t : Played) → Ended played fault_lines o yard e b t → (pays_other b t ≡ true → Among (picked pays_other [] played) t) → opens_other by (map tell b) (tell t) ≡ true → Among turns (turn_of (tell t))
     other-turn b t h is_picked opens =
         let both = and_parts (is_opened by (map tell b) (tell t)) (not (is_alone (map tell b) (tell t))) opens in
-        let w = opened-by played o yard e by b t h both.0 in
+        let w = opened-by played fault_lines o yard e by b t h both.0 in
         let own = map (λ (t : Played). turn_of (tell t)) (picked pays_other [] played) in
         elim w.rests [
           | inl paid ↦
@@ -88,9 +89,9 @@ module _ (played : List Played) (o : Told) (yard : Shown) (e : RunEnded played o
     pub occasions-few : occasions by (map tell played) ≤ counted by played e.faults
     occasions-few =
         let looks = picked-split tell (opens_look by) (paid_by by) [] played
-        (after-imply (Ended played o yard e) (λ b t. opens_look by (map tell b) (tell t) ≡ true → paid_by by t ≡ true) [] played look-pays all_ended) in
+        (after-imply (Ended played fault_lines o yard e) (λ b t. opens_look by (map tell b) (tell t) ≡ true → paid_by by t ≡ true) [] played look-pays all_ended) in
         let others = turns-few (picked (opens_other by) [] (map tell played)) turns (picked-all tell (opens_other by) (λ a. Among turns (turn_of a)) [] played
-        (after-both (Ended played o yard e) (λ b t. pays_other b t ≡ true → Among (picked pays_other [] played) t) (λ b t. opens_other by (map tell b) (tell t) ≡ true → Among turns (turn_of (tell t))) [] played
+        (after-both (Ended played fault_lines o yard e) (λ b t. pays_other b t ≡ true → Among (picked pays_other [] played) t) (λ b t. opens_other by (map tell b) (tell t) ≡ true → Among turns (turn_of (tell t))) [] played
         other-turn all_ended (picked-among pays_other [] played))) in
         let own = picked pays_other [] played in
         let few : length turns ≡ length own + count_by (λ (f : Fault). by f.node f.cause) e.faults =

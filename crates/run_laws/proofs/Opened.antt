@@ -3,6 +3,7 @@ use Rattle.std.proofs.Common.{◌≡◌, refl, ap, inl, inr, ◌⊎◌, ℕ, ◌
 use Rattle.std.specs.List.{list_any}
 use Rattle.std.proofs.lemmas.Bool.{and_parts, and_from, both_ways, not-true, not_from_true, or_left, or_right}
 use Rattle.delos_types.specs.declared.cause.Cause.{Cause}
+use Rattle.script_text.specs.declared.faults.FaultLine.{FaultLine}
 use Rattle.fitting_run.specs.declared.told.Told.{Told}
 use Rattle.fitting_run.specs.Answered.{cause_of, is_late, is_logged, is_open, same_session, session_asking}
 use Rattle.fitting_run.specs.Faults.{is_alone, is_broken, is_opened, logs_beside, stops}
@@ -36,18 +37,18 @@ pub record IsOpenedBy (by : ℕ → Cause → Bool) (faults : List Fault) (befor
   pub is : by t.line.node cause ≡ true
   pub rests : (t.paid ≡ Some cause) ⊎ ((is_alone (map tell before) (tell t) ≡ false) × CameTo faults cause t.line.node t.line.phase)
 
-module _ (played : List Played) (o : Told) (yard : Shown) (e : RunEnded played o yard) where
-  pub opened-by : (by : ℕ → Cause → Bool) (before : List Played) (t : Played) → Ended played o yard e before t → is_opened by (map tell before) (tell t) ≡ true → IsOpenedBy by e.faults before t
+module _ (played : List Played) (fault_lines : List FaultLine) (o : Told) (yard : Shown) (e : RunEnded played fault_lines o yard) where
+  pub opened-by : (by : ℕ → Cause → Bool) (before : List Played) (t : Played) → Ended played fault_lines o yard e before t → is_opened by (map tell before) (tell t) ≡ true → IsOpenedBy by e.faults before t
   opened-by by before t h opened =
       let both = and_parts (some_is (cause_of t.row.outcome) (by t.line.node)) (not (list_any (stops (tell t)) (map tell before))) opened in
       let k = cause-some (cause_of t.row.outcome) (by t.line.node) both.0 in
       let broken : is_broken (tell t) ≡ true = or_left (is_open t.row.outcome) (is_late t.row.outcome) (ap is_some k.1) in
       let stopped_early : IsSome (session_asking t.line.asks) → IsSome (e.ends (session_in t.line.asks)).stopped → (e.ends (session_in t.line.asks)).when < t.line.phase → ⊥ =
-      λ asking stopped early. both_ways (list_any (stops (tell t)) (map tell before)) (not-true _ both.1) (stopped-before played o yard e before t h.0 asking stopped early) in
+      λ asking stopped early. both_ways (list_any (stops (tell t)) (map tell before)) (not-true _ both.1) (stopped-before played fault_lines o yard e before t h.0 asking stopped early) in
       record {
         cause = k.0;
         is = k.2;
-        rests = elim (has-cause played o yard e before t k.0 h k.1) [
+        rests = elim (has-cause played fault_lines o yard e before t k.0 h k.1) [
           | inl paid ↦ inl paid
           | inr more ↦ elim more.1 [
             | inl stopped ↦
@@ -56,7 +57,7 @@ module _ (played : List Played) (o : Told) (yard : Shown) (e : RunEnded played o
                   | inl early ↦ absurd (stopped_early more.0 some early)
                   | inr logged ↦ inr (
                     not_from_true _ (or_left (is_logged (tell t)) (list_any (logs_beside (tell t)) (map tell before)) logged),
-                    broken-came played o yard e before t h logged broken (stopped_early more.0 some) k.0 stopped.0,
+                    broken-came played fault_lines o yard e before t h logged broken (stopped_early more.0 some) k.0 stopped.0,
                   )
                 ]
             | inr came ↦ inr (beside-not_alone before t more.0 came.0, came.1)

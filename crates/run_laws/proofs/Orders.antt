@@ -9,6 +9,7 @@ use Rattle.delos_types.specs.declared.cause.Cause.{Cause}
 use Rattle.delos_types.specs.declared.cause.Cause.TheVariants as cause
 use Rattle.engine_api.specs.declared.act.Act.{Act}
 use Rattle.log_laws.specs.State.{acts_in}
+use Rattle.script_text.specs.declared.faults.FaultLine.{FaultLine}
 use Rattle.fitting_run.specs.declared.answered.Answered.{Answered}
 use Rattle.fitting_run.specs.declared.told.Told.{Told}
 use Rattle.fitting_run.specs.Answered.{before_barrier, cause_of, same_cause, is_logged, is_open, is_placed_on_time, looked_at, on_time, place_le, place_on_time, same_session, session_asking}
@@ -152,13 +153,13 @@ module _ (log : List Entry) (tails : ℕ → ℕ) (faults : List Fault) (ends : 
   stands-from (asks.Admin Retire) (out.Read after found) position h e = absurd h
   stands-from (asks.Admin a) o position h e = absurd (none_some position e)
 
-module _ (played : List Played) (o : Told) (yard : Shown) (e : RunEnded played o yard) where
+module _ (played : List Played) (fault_lines : List FaultLine) (o : Told) (yard : Shown) (e : RunEnded played fault_lines o yard) where
   -- a line that ended, of the next rank of its session where it logs
   abbrev pub Turn : List Played → Played → Type 0
-  Turn before t = Ended played o yard e before t × IsRanked before t
+  Turn before t = Ended played fault_lines o yard e before t × IsRanked before t
 
   pub all_turns : AllAfter Turn [] played
-  all_turns = after-both (Ended played o yard e) IsRanked Turn [] played (λ b t ended ranked. (ended, ranked)) (all_ended played o yard e) (all_ranked [] played e.ranked)
+  all_turns = after-both (Ended played fault_lines o yard e) IsRanked Turn [] played (λ b t ended ranked. (ended, ranked)) (all_ended played fault_lines o yard e) (all_ranked [] played e.ranked)
 
   abbrev pub OnTime : Played → Place → Type 0
   OnTime t p = IsOnTime e.log e.tails t.line.phase t.line.asks p
@@ -214,7 +215,7 @@ module _ (played : List Played) (o : Told) (yard : Shown) (e : RunEnded played o
       let three = and_parts (session && early) (is_logged (tell t)) all.0 in
       let two = and_parts session early three.0 in
       let broken = all-at (λ (v : Played). is_logged (tell v) ≡ true → is_placed_on_time (tell v) ≡ false → is_broken (tell v) ≡ true) played t all_broken m three.1 (not-true _ all.1) in
-      let stopped = broken-stopped played o yard e t m three.1 broken in
+      let stopped = broken-stopped played fault_lines o yard e t m three.1 broken in
       all-at (λ (v : Played). (phase : ℕ) → IsSome (session_asking v.line.asks) → IsStopped (e.ends (session_in v.line.asks)) phase → phase < v.line.phase → is_open v.row.outcome ≡ true) played u all_opened n t.line.phase
       (has-session t.line.asks u.line.asks two.0) (subst (λ s. IsStopped (e.ends s) t.line.phase) (one-session t.line.asks u.line.asks two.0) stopped) (ltb-true t.line.phase u.line.phase two.1))
 
@@ -232,7 +233,7 @@ module _ (played : List Played) (o : Told) (yard : Shown) (e : RunEnded played o
       let three = and_parts (session && early) (is_logged (tell v.0)) all.0 in
       let two = and_parts session early three.0 in
       let s = session_in t.line.asks in
-      let st : IsStopped (e.ends s) v.0.line.phase = subst (λ n. IsStopped (e.ends n) v.0.line.phase) (one-session v.0.line.asks t.line.asks two.0) (broken-stopped played o yard e v.0 v.1 three.1 all.1) in
+      let st : IsStopped (e.ends s) v.0.line.phase = subst (λ n. IsStopped (e.ends n) v.0.line.phase) (one-session v.0.line.asks t.line.asks two.0) (broken-stopped played fault_lines o yard e v.0 v.1 three.1 all.1) in
       let c = some-of (e.ends s).stopped st.0 in
       let upto = st.1 in
       let low = ltb-true v.0.line.phase t.line.phase two.1 in

@@ -10,6 +10,7 @@ use Rattle.log_laws.specs.State.{acts_in}
 use Rattle.script_text.specs.declared.line.Session.{Session}
 use Rattle.script_text.specs.declared.asks.Asks.{Asks}
 use Rattle.script_text.specs.declared.asks.Asks.TheVariants as asks
+use Rattle.script_text.specs.declared.faults.FaultLine.{FaultLine}
 use Rattle.row_text.specs.declared.row.Outcome.{Outcome}
 use Rattle.row_text.specs.declared.row.Outcome.TheVariants as out
 use Rattle.fitting_run.specs.declared.told.Told.{Told}
@@ -100,8 +101,8 @@ logged-line played a turn x (asks.Logged s r c) m is session rank command h = re
 logged-line played a turn x (asks.Look s q) m is session rank command h = absurd h
 logged-line played a turn x (asks.Admin b) m is session rank command h = absurd h
 
-has-line : (played : List Played) (o : Told) (yard : Shown) (e : RunEnded played o yard) (a : Act) → Among (acts_in e.log) a → HasLine played a
-has-line played o yard e a m =
+has-line : (played : List Played) (fault_lines : List FaultLine) (o : Told) (yard : Shown) (e : RunEnded played fault_lines o yard) (a : Act) → Among (acts_in e.log) a → HasLine played a
+has-line played fault_lines o yard e a m =
     let h : HasAppeared (asked_in 0 e.log) a = all-at (HasAppeared (asked_in 0 e.log)) (acts_in e.log) a (appeared e.log) m in
     let x : Asked = h.first in
     let is = found-among (λ (y : Asked). (y.session == a.session) && (y.rank == a.rank)) (asked_in 0 e.log) x h.found in
@@ -132,14 +133,14 @@ tells-act log s r c (out.Open cause) a f is session rank command = absurd (no a 
     no a e = cc
 tells-act log s r c o a f is session rank command = absurd f
 
-module _ (played : List Played) (o : Told) (yard : Shown) (e : RunEnded played o yard) where
+module _ (played : List Played) (fault_lines : List FaultLine) (o : Told) (yard : Shown) (e : RunEnded played fault_lines o yard) where
   all_fates : AllByRecursion (λ t. Fate e.log t.line.asks t.row.outcome) played
   all_fates = fates e.log e.tails e.faults e.ends [] played e.lines
 
   -- an act is told by the row of its line
   act-told : (a : Act) → Among (acts_in e.log) a → Among (flat_map told_act (map tell played)) a
   act-told a m =
-      let l = has-line played o yard e a m in
+      let l = has-line played fault_lines o yard e a m in
       let f = all-at (λ (t : Played). Fate e.log t.line.asks t.row.outcome) played l.turn all_fates l.among in
       let tells = tells-act e.log l.session l.rank l.command l.turn.row.outcome a (subst (λ q. Fate e.log q l.turn.row.outcome) l.asks_is f)
       (act-found e.log a l.session.id l.rank m l.session_is l.rank_is) l.session_is l.rank_is l.command_is in
@@ -154,7 +155,7 @@ module _ (played : List Played) (o : Told) (yard : Shown) (e : RunEnded played o
       let parts = and_parts (a.session == s.id) (a.rank == r) found.1 in
       let session : a.session ≡ s.id = eqb-true a.session s.id parts.0 in
       let rank : a.rank ≡ r = eqb-true a.rank r parts.1 in
-      let l = has-line played o yard e a found.0 in
+      let l = has-line played fault_lines o yard e a found.0 in
       let same : l.command ≡ c = one-line (map (λ (t : Played). t.line) played) l.turn.line t.line l.session s l.rank r l.command c e.ranked
       (among-map (λ (t : Played). t.line) played l.turn l.among) (among-map (λ (t : Played). t.line) played t m) l.asks_is is (sym l.session_is ∙ session) (sym l.rank_is ∙ rank) in
       subst (AllAmong (acts_in e.log)) (sym (tells-act e.log s r c (out.Placed place reply late) a f f.1 session rank (l.command_is ∙ ap Some same))) (found.0, tt)

@@ -2,21 +2,23 @@
 use Rattle.std.proofs.Common.{◌≡◌, refl, sym, subst, inl, inr, ◌⊎◌, ℕ, zero, suc, ◌+◌, ◌<◌, Bool, true, false, not, ◌&&◌, ◌||◌, ◌==◌, cond, List, [], ◌∷◌, Some, is_some, length, map, nat_lt, nat_le, count_by, slice_get, arith, lt-ltb, ltb-true, le-leb, eq-eqb, eqb-true, ne_eqb}
 use Rattle.std.specs.List.{AllByRecursion, list_all, list_any}
 use Rattle.std.proofs.lemmas.Bool.{and_from, and_parts, both_ways, not_from_false, or_left, or_right}
+use Rattle.std.proofs.lemmas.Map.Keys.{any_passes_from_place}
 use Rattle.std.proofs.lemmas.List.Sums.{sum_by-cons}
 use Rattle.delos_types.specs.declared.chain.Chain.{Chain}
 use Rattle.chain_map.specs.Chain.{last_id}
+use Rattle.script_text.specs.declared.faults.FaultLine.{FaultLine}
 use Rattle.row_text.specs.declared.row.Outcome.{Outcome}
 use Rattle.row_text.specs.declared.row.Outcome.TheVariants as out
 use Rattle.fitting_run.specs.declared.answered.Answered.{Answered}
 use Rattle.fitting_run.specs.declared.told.Told.{Told}
 use Rattle.fitting_run.specs.Answered.{before_barrier}
 use Rattle.fitting_run.specs.Fits.{told_of}
-use Rattle.fitting_run.specs.Replacements.{ReplacementsAgree, begins_at, has_ids, is_behind, is_beside, is_overtaken, lacks_spare, make_in_order, start_made, stays_spent, tells_higher, version_found, version_told, versions_at}
+use Rattle.fitting_run.specs.Replacements.{ReplacementsAgree, begins_at, has_ids, is_behind, is_beside, is_overtaken, lacks_spare, make_in_order, start_made, stays_spent, stops_another, stops_beside, tells_higher, version_found, version_told, versions_at}
 use Rattle.fitting_run.specs.Tests.{◌⇒◌, where_some}
 use Rattle.fitting_run.specs.Yard.{Shown}
 use Rattle.log_laws.specs.Order.{EachPair}
 use Rattle.log_laws.proofs.Pairs.{all-imply}
-use Rattle.run_laws.specs.Ended.{IsApart, IsBeside, IsReplaced, Played, Precedes, Replacements, RunEnded, tells_version}
+use Rattle.run_laws.specs.Ended.{IsApart, IsBeside, IsReplaced, IsStoppedBeside, Played, Precedes, Replacements, RunEnded, SomeTurn, tells_version}
 use Rattle.run_laws.proofs.Behind.{any-at}
 use Rattle.run_laws.proofs.Members.{all-test, among-get}
 use Rattle.run_laws.proofs.Pairs.{pairs-imply}
@@ -78,6 +80,21 @@ beside-is : (t u : Played) → IsBeside t u → is_beside (tell t) u.line ≡ tr
 beside-is t u b =
     and_from (u.line.phase == t.line.phase) (not (u.line.node == t.line.node)) (eq-eqb u.line.phase t.line.phase b.phase_is) (not_from_false (u.line.node == t.line.node) (ne_eqb u.line.node t.line.node b.another))
 
+-- a stop of another node's disk, in the phase
+stop-is : (faults : List FaultLine) (t : Played) → IsStoppedBeside faults t → list_any (stops_beside (tell t)) faults ≡ true
+stop-is faults t b =
+    let stops : stops_another t.line.node b.line.asks ≡ true = subst (λ asked. stops_another t.line.node asked ≡ true) (sym b.asks_is) (not_from_false (b.node == t.line.node) (ne_eqb b.node t.line.node b.another)) in
+    any_passes_from_place (stops_beside (tell t)) faults b.at b.line b.is (and_from (b.line.phase == t.line.phase) (stops_another t.line.node b.line.asks) (eq-eqb b.line.phase t.line.phase b.phase_is) stops)
+
+-- another node has a part in the phase
+found-beside : (played : List Played) (faults : List FaultLine) (t : Played) → SomeTurn played (IsBeside t) ⊎ IsStoppedBeside faults t
+    → (list_any (is_beside (tell t)) (map (λ u. u.line) played) || list_any (stops_beside (tell t)) faults) ≡ true
+found-beside played faults t some = elim some [
+  | inl k ↦ or_left (list_any (is_beside (tell t)) (map (λ (u : Played). u.line) played)) (list_any (stops_beside (tell t)) faults)
+      (any-at (λ (u : Played). u.line) (is_beside (tell t)) played k.turn (among-get played k.at k.turn k.is) (beside-is t k.turn k.so))
+  | inr stop ↦ or_right (list_any (is_beside (tell t)) (map (λ (u : Played). u.line) played)) (list_any (stops_beside (tell t)) faults) (stop-is faults t stop)
+]
+
 module _ (version : ℕ) (chain : Chain) (shelf : ℕ) where
   abbrev Is : Outcome → Type 0
   Is o = IsReplaced version chain shelf o
@@ -102,7 +119,7 @@ behind-is a b e =
       | false ↦ λ is f. inl (ltb-true a.line.phase b.line.phase f)
     ] refl e
 
-module _ (played : List Played) (version : ℕ) (chain : Chain) (shelf : ℕ) (h : Replacements played version chain shelf) where
+module _ (played : List Played) (fault_lines : List FaultLine) (version : ℕ) (chain : Chain) (shelf : ℕ) (h : Replacements played fault_lines version chain shelf) where
   all_replaced : AllByRecursion (λ t. IsReplaced version chain shelf t.row.outcome) played
   all_replaced = all-places (λ (t : Played). IsReplaced version chain shelf t.row.outcome) played h.each
 
@@ -117,7 +134,7 @@ module _ (played : List Played) (version : ℕ) (chain : Chain) (shelf : ℕ) (h
   all_in_order : EachPair InOrder played
   all_in_order = pairs-places InOrder played (λ i j t u is it low. h.order i j t u is it low)
 
-  pub told-agree : ReplacementsAgree (map (λ t. t.line) played) (map tell played) version chain shelf
+  pub told-agree : ReplacementsAgree (map (λ t. t.line) played) fault_lines (map tell played) version chain shelf
   told-agree = record {
     versions = each_pair-from tell (λ a b. make_in_order a.row.outcome b.row.outcome) played
         (pairs-places (λ t u. make_in_order t.row.outcome u.row.outcome ≡ true) played (λ i j t u is it low. apart-test t.row.outcome u.row.outcome (h.apart i j t u is it low)));
@@ -134,17 +151,17 @@ module _ (played : List Played) (version : ℕ) (chain : Chain) (shelf : ℕ) (h
         le-leb (versions_at t.line.node (map tell played)) (last_id chain) (omega (arith, versions-are t.line.node played, ids))));
     starts = each-tells (λ o. where_some (start_made o) (begins_at chain)) (begun-test version chain shelf);
     upto = each-tells (λ o. where_some (version_told o) (λ v. nat_le v version)) (upto-test version chain shelf);
-    overtaken = all-test tell (is_overtaken (map (λ t. t.line) played)) played (all-places (λ (t : Played). is_overtaken (map (λ (u : Played). u.line) played) (tell t) ≡ true) played (λ i t is.
+    overtaken = all-test tell (is_overtaken (map (λ t. t.line) played) fault_lines) played (all-places (λ (t : Played). is_overtaken (map (λ (u : Played). u.line) played) fault_lines (tell t) ≡ true) played (λ i t is.
         overtaken-test t.row.outcome _ (λ v told.
         let k = h.found i t v is told in
-        and_from (nat_le 2 v) (list_any (is_beside (tell t)) (map (λ (u : Played). u.line) played)) (le-leb 2 v k.0) (any-at (λ (u : Played). u.line) (is_beside (tell t)) played k.1.turn (among-get played k.1.at k.1.turn k.1.is) (beside-is t k.1.turn k.1.so)))));
+        and_from (nat_le 2 v) (list_any (is_beside (tell t)) (map (λ (u : Played). u.line) played) || list_any (stops_beside (tell t)) fault_lines) (le-leb 2 v k.0) (found-beside played fault_lines t k.1))));
     last = each-tells (λ o. lacks_spare o ⇒ (last_id chain + 1 == shelf)) (last-test version chain shelf);
     counts = h.counts;
   }
 
-pub replacements-agree : (played : List Played) (o : Told) (yard : Shown) → RunEnded played o yard
-    → ReplacementsAgree (map (λ t. t.line) played) (told_of (map (λ t. t.line) played) o) o.version o.chain (length yard.cells)
-replacements-agree played o yard e =
+pub replacements-agree : (played : List Played) (fault_lines : List FaultLine) (o : Told) (yard : Shown) → RunEnded played fault_lines o yard
+    → ReplacementsAgree (map (λ t. t.line) played) fault_lines (told_of (map (λ t. t.line) played) o) o.version o.chain (length yard.cells)
+replacements-agree played fault_lines o yard e =
     let lines = map (λ (t : Played). t.line) played in
-    subst (λ told. ReplacementsAgree lines told o.version o.chain (length yard.cells)) (sym (told-is played o e.rows))
-    (told-agree played o.version o.chain (length yard.cells) e.replacements)
+    subst (λ told. ReplacementsAgree lines fault_lines told o.version o.chain (length yard.cells)) (sym (told-is played o e.rows))
+    (told-agree played fault_lines o.version o.chain (length yard.cells) e.replacements)

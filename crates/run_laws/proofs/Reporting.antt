@@ -18,6 +18,7 @@ use Rattle.delos_types.specs.declared.chain.Chain.{Chain}
 use Rattle.script_text.specs.declared.line.Admin.TheVariants.{Extend, Alive, Trim, Retire}
 use Rattle.script_text.specs.declared.asks.Asks.{Asks}
 use Rattle.script_text.specs.declared.asks.Asks.TheVariants as asks
+use Rattle.script_text.specs.declared.faults.FaultLine.{FaultLine}
 use Rattle.row_text.specs.declared.row.Outcome.{Outcome}
 use Rattle.row_text.specs.declared.row.Outcome.TheVariants as out
 use Rattle.fitting_run.specs.declared.answered.Answered.{Answered}
@@ -158,18 +159,18 @@ among-at (u ∷ ts) t m = elim m [
   | inr later ↦ (let rest = among-at ts t later in (suc rest.0, rest.1))
 ]
 
-module _ (played : List Played) (o : Told) (yard : Shown) (e : RunEnded played o yard) where
+module _ (played : List Played) (fault_lines : List FaultLine) (o : Told) (yard : Shown) (e : RunEnded played fault_lines o yard) where
   abbrev Reports : Played → Type 0
   Reports t = (d : ℕ) → reported t.row.outcome ≡ Some d → HasReported e.log e.tails t.line.phase d
 
   all_reported : AllByRecursion Reports played
   all_reported =
-      after-each (Turn played o yard e) Reports [] played
-      (λ b t h d is. has-reported e.log e.tails e.faults e.ends b t t.line.asks t.row.outcome d h.0.1.came is) (all_turns played o yard e)
+      after-each (Turn played fault_lines o yard e) Reports [] played
+      (λ b t h d is. has-reported e.log e.tails e.faults e.ends b t t.line.asks t.row.outcome d h.0.1.came is) (all_turns played fault_lines o yard e)
 
   -- a command that is placed in its phase acted there, and its rank is none of 0
   record Acted (t : Played) (p : Place) : Type 0 where
-    pub placed : OnTime played o yard e t p
+    pub placed : OnTime played fault_lines o yard e t p
     pub rank : 1 ≤ rank_in t.line.asks
 
   abbrev Acts : Played → Type 0
@@ -177,9 +178,9 @@ module _ (played : List Played) (o : Told) (yard : Shown) (e : RunEnded played o
 
   all_act : AllByRecursion Acts played
   all_act =
-      after-each (Turn played o yard e) Acts [] played (λ b t h p is.
-      let x = turn-on_time played o yard e b t h p is in
-      record { placed = x; rank = let next = h.1 x.logged in omega (arith, next) }) (all_turns played o yard e)
+      after-each (Turn played fault_lines o yard e) Acts [] played (λ b t h p is.
+      let x = turn-on_time played fault_lines o yard e b t h p is in
+      record { placed = x; rank = let next = h.1 x.logged in omega (arith, next) }) (all_turns played fault_lines o yard e)
 
   -- the tail at which a phase begins is above the places of an earlier phase
   below-tail : (t : Played) (p : Place) (phase : ℕ) → Acted t p → t.line.phase < phase → p.pos < e.tails phase
@@ -271,7 +272,7 @@ module _ (played : List Played) (o : Told) (yard : Shown) (e : RunEnded played o
   Stands t = (n : ℕ) → n ≤ e.tails t.line.phase → clean_at e.log n ≡ true → StandsFrom n t.row.outcome
 
   all_stand : AllByRecursion Stands played
-  all_stand = after-each (Turn played o yard e) Stands [] played (λ b t h n low clean. came-from e.log e.tails e.faults e.ends b t n t.line.asks t.row.outcome low clean h.0.1.came) (all_turns played o yard e)
+  all_stand = after-each (Turn played fault_lines o yard e) Stands [] played (λ b t h n low clean. came-from e.log e.tails e.faults e.ends b t n t.line.asks t.row.outcome low clean h.0.1.came) (all_turns played fault_lines o yard e)
 
   -- what is reported is clean
   reports-clean : (t : Played) (d : ℕ) → HasReported e.log e.tails t.line.phase d → clean_at e.log d ≡ true
@@ -332,5 +333,5 @@ module _ (played : List Played) (o : Told) (yard : Shown) (e : RunEnded played o
         (all-of (λ (t : Played). has_leave o.chain.trim (items_of o.chain yard.cells) (tell t) ≡ true) played left-in-log);
   }
 
-pub reports-stand : (played : List Played) (o : Told) (yard : Shown) → RunEnded played o yard → ReportsStand (told_of (map (λ t. t.line) played) o) o.chain.trim (items_of o.chain yard.cells) o.end
-reports-stand played o yard e = subst (λ told. ReportsStand told o.chain.trim (items_of o.chain yard.cells) o.end) (sym (told-is played o e.rows)) (told-stand played o yard e)
+pub reports-stand : (played : List Played) (fault_lines : List FaultLine) (o : Told) (yard : Shown) → RunEnded played fault_lines o yard → ReportsStand (told_of (map (λ t. t.line) played) o) o.chain.trim (items_of o.chain yard.cells) o.end
+reports-stand played fault_lines o yard e = subst (λ told. ReportsStand told o.chain.trim (items_of o.chain yard.cells) o.end) (sym (told-is played o e.rows)) (told-stand played fault_lines o yard e)

@@ -5,6 +5,7 @@ use Rattle.std.proofs.lemmas.Bool.{and_parts, and_from, both_ways, leb-true}
 use Rattle.delos_types.specs.declared.entry.Entry.{Entry}
 use Rattle.script_text.specs.declared.asks.Asks.{Asks}
 use Rattle.script_text.specs.declared.asks.Asks.TheVariants as asks
+use Rattle.script_text.specs.declared.faults.FaultLine.{FaultLine}
 use Rattle.row_text.specs.declared.row.Outcome.{Outcome}
 use Rattle.row_text.specs.declared.row.Outcome.TheVariants as out
 use Rattle.fitting_run.specs.declared.told.Told.{Told}
@@ -107,7 +108,7 @@ same-session s (asks.Logged t r c) (asks.Admin a) is e some = absurd (both_ways 
 same-session s (asks.Look t q) b is e some = absurd (both_ways false refl is)
 same-session s (asks.Admin a) b is e some = absurd (both_ways false refl is)
 
-module _ (played : List Played) (o : Told) (yard : Shown) (e : RunEnded played o yard) where
+module _ (played : List Played) (fault_lines : List FaultLine) (o : Told) (yard : Shown) (e : RunEnded played fault_lines o yard) where
   abbrev end_of : Played → SessionEnd
   end_of t = e.ends (session_in t.line.asks)
 

@@ -13,6 +13,7 @@ use Rattle.script_text.specs.declared.line.Admin.TheVariants.{Alive, Retire}
 use Rattle.script_text.specs.declared.asks.Asks.{Asks}
 use Rattle.script_text.specs.declared.asks.Asks.TheVariants as asks
 use Rattle.script_text.specs.declared.asks.NamedLine.{NamedLine}
+use Rattle.script_text.specs.declared.faults.FaultLine.{FaultLine}
 use Rattle.row_text.specs.declared.row.Outcome.{Outcome}
 use Rattle.row_text.specs.declared.row.Outcome.TheVariants as out
 use Rattle.fitting_run.specs.declared.answered.Answered.{Answered}
@@ -290,8 +291,8 @@ module _ (played : List Played) (nodes : ℕ) (o : Told) (yard : Shown) (h : Tri
     allowed = allowed-so (o.chain.trim == 0) refl;
   }
 
-pub trims-stand : (played : List Played) (o : Told) (yard : Shown) → RunEnded played o yard
+pub trims-stand : (played : List Played) (fault_lines : List FaultLine) (o : Told) (yard : Shown) → RunEnded played fault_lines o yard
     → TrimsStand (map (λ t. t.line) played) (told_of (map (λ t. t.line) played) o) (length yard.disks) o.chain.trim (items_of o.chain yard.cells) o.end
-trims-stand played o yard e =
+trims-stand played fault_lines o yard e =
     subst (λ told. TrimsStand (map (λ (t : Played). t.line) played) told (length yard.disks) o.chain.trim (items_of o.chain yard.cells) o.end) (sym (told-is played o e.rows))
     (trims-stand_told played (length yard.disks) o yard e.trims)

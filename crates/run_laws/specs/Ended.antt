@@ -24,6 +24,8 @@ use Rattle.log_laws.specs.Order.{acts_below}
 use Rattle.fabric_core.specs.Log.{virtual_tail, virtual_log, has_no_gap}
 use Rattle.script_text.specs.declared.line.Admin.TheVariants.{Extend, Alive, Trim, Retire}
 use Rattle.script_text.specs.declared.asks.NamedLine.{NamedLine}
+use Rattle.script_text.specs.declared.faults.FaultLine.{FaultLine}
+use Rattle.script_text.specs.declared.faults.FaultAsk.TheVariants.{Stop}
 use Rattle.script_text.specs.declared.asks.Asks.{Asks}
 use Rattle.script_text.specs.declared.asks.Asks.TheVariants as asks
 use Rattle.row_text.specs.declared.row.Row.{Row}
@@ -253,7 +255,18 @@ pub record IsBeside (t u : Played) : Type 0 where
   pub phase_is : u.line.phase ≡ t.line.phase
   pub another : u.line.node ≢ t.line.node
 
-pub record Replacements (played : List Played) (version : ℕ) (chain : Chain) (shelf : ℕ) : Type 0 where
+-- a fault line stops the disk of another node, in the phase of t
+pub record IsStoppedBeside (fault_lines : List FaultLine) (t : Played) : Type 0 where
+  pub at : ℕ
+  pub line : FaultLine
+  pub is : slice_get fault_lines at ≡ Some line
+  pub phase_is : line.phase ≡ t.line.phase
+  pub node : ℕ
+  pub after : ℕ
+  pub asks_is : line.asks ≡ Stop node after
+  pub another : node ≢ t.line.node
+
+pub record Replacements (played : List Played) (fault_lines : List FaultLine) (version : ℕ) (chain : Chain) (shelf : ℕ) : Type 0 where
   pub each : (i : ℕ) (t : Played) → slice_get played i ≡ Some t → IsReplaced version chain shelf t.row.outcome
   -- each that a node made, or found, took an id of its own
   pub ids : (i : ℕ) (t : Played) → slice_get played i ≡ Some t → count_by (tells_version t.line.node) played ≤ last_id chain
@@ -262,8 +275,8 @@ pub record Replacements (played : List Played) (version : ℕ) (chain : Chain) (
       → (t.line.phase < u.line.phase) ⊎ (t.line.node ≡ u.line.node) → Precedes t.row.outcome u.row.outcome
   -- each version is of one loglet more, or trimmed the log
   pub counts : goes_by_ones version chain ≡ true
-  -- what a line found another node had made, in the line's phase; the first chain nobody had
-  pub found : (i : ℕ) (t : Played) (version : ℕ) → slice_get played i ≡ Some t → t.row.outcome ≡ out.Moved version → (2 ≤ version) × SomeTurn played (IsBeside t)
+  -- what a line found another node had made, that has a line in its phase or is stopped in it; the first chain nobody had
+  pub found : (i : ℕ) (t : Played) (version : ℕ) → slice_get played i ≡ Some t → t.row.outcome ≡ out.Moved version → (2 ≤ version) × (SomeTurn played (IsBeside t) ⊎ IsStoppedBeside fault_lines t)
 
 -- Trims
 
@@ -393,7 +406,7 @@ pub record FaultsCame (played : List Played) (faults : List Fault) (yard : Shown
 
 -- All of it
 
-pub record RunEnded (played : List Played) (o : Told) (yard : Shown) : Type 0 where
+pub record RunEnded (played : List Played) (fault_lines : List FaultLine) (o : Told) (yard : Shown) : Type 0 where
   pub log : List Entry
   pub tails : ℕ → ℕ
   pub faults : List Fault
@@ -426,6 +439,6 @@ pub record RunEnded (played : List Played) (o : Told) (yard : Shown) : Type 0 wh
       → t.row.outcome ≡ out.Read after found → u.row.outcome ≡ out.Read later next → after ≤ later
   pub trims : TrimsEnded played (length yard.disks) o.chain yard.cells o.end
   pub sessions : (s : ℕ) → SessionEnded played faults home s (ends s)
-  pub replacements : Replacements played o.version o.chain (length yard.cells)
+  pub replacements : Replacements played fault_lines o.version o.chain (length yard.cells)
   pub came : FaultsCame played faults yard
   pub registered : ChainIsRegistered o yard.register

@@ -3,6 +3,7 @@ ghost use Rattle.std.specs.Prelude.{◌≡◌, ◌≤◌, ℕ, List, map, true};
 ghost use Rattle.delos_types.specs.declared.chain.Chain.{Chain};
 ghost use Rattle.loglet_api.specs.View.{LogletView};
 ghost use Rattle.script_text.specs.declared.asks.NamedLine.{NamedLine};
+ghost use Rattle.script_text.specs.declared.faults.FaultLine.{FaultLine};
 ghost use Rattle.fitting_run.specs.declared.answered.Answered.{Answered};
 ghost use Rattle.fitting_run.specs.declared.told.Told.{Told};
 ghost use Rattle.fitting_run.specs.Yard.{Shown};
@@ -12,14 +13,14 @@ ghost use Rattle.fitting_run.specs.Turns.{ActsAreShown};
 ghost use Rattle.fitting_run.specs.Calm.{IsCalm, all_answered};
 ghost use Rattle.run_laws.specs.Ended.{Played, RunEnded};
 
-/// What a run tells fits its script and the yard that it gave back.
+/// What a run tells fits its script, its fault lines and the yard that it gave back.
 pub fn what_ended_fits()
-    ensures { (played : List Played) (o : Told) (yard : Shown) → RunEnded played o yard → Fits (map (λ t. t.line) played) o yard }
+    ensures { (played : List Played) (fault_lines : List FaultLine) (o : Told) (yard : Shown) → RunEnded played fault_lines o yard → Fits (map (λ t. t.line) played) fault_lines o yard }
 {}
 
 /// Where no fault was counted, each line has its own answer.
 pub fn a_calm_run_answers_all()
-    ensures { (played : List Played) (o : Told) (yard : Shown) → RunEnded played o yard → IsCalm yard → all_answered o.rows ≡ true }
+    ensures { (played : List Played) (fault_lines : List FaultLine) (o : Told) (yard : Shown) → RunEnded played fault_lines o yard → IsCalm yard → all_answered o.rows ≡ true }
 {}
 
 /// Of acts that a log lets act once, what the rows and the part of the log that isn't trimmed tell holds too: the tests of the plain

@@ -11,9 +11,9 @@ use Rattle.run_ends.proofs.Sessions.{size, some}
 use Rattle.run_ends.proofs.ends.each_segment_is_told.Goals as goal
 
 pub returns : goal.returns
-returns g c = let p = g.P.Rules in let replica = g.S.Replica in λ lines rows journal looks log workers h are.
-    let sized = size p.law replica.meaning lines journal looks log workers h in
-    let one = some p.law replica.meaning lines journal looks log workers h in
+returns g c = let p = g.P.Rules in let replica = g.S.Replica in λ lines fault_lines rows journal looks log workers h are.
+    let sized = size p.law replica.meaning lines fault_lines journal looks log workers h in
+    let one = some p.law replica.meaning lines fault_lines journal looks log workers h in
     let nodes = length workers in
     let played = played_of lines rows looks in
     let all = all_rows_told p.law lines h.home h.run h.courses workers looks rows h.lines_are h.joined are sized in

@@ -8,15 +8,15 @@ use Rattle.run_laws.proofs.Trimming.{trims-stand}
 use Rattle.run_laws.proofs.laws.what_ended_fits.Goals as goal
 
 pub returns : goal.returns
-returns c = λ played o yard e. record {
-  one_row_each = one-row-each played o yard e;
-  acts_once = acts-once played o yard e;
-  session_order = session-order played o yard e;
-  reads_are_current = reads-current played o yard e;
-  barriers = barriers-kept played o yard e;
-  faults_are_counted = faults-counted played o yard e;
-  replacements = replacements-agree played o yard e;
-  reports = reports-stand played o yard e;
-  trims = trims-stand played o yard e;
+returns c = λ played fault_lines o yard e. record {
+  one_row_each = one-row-each played fault_lines o yard e;
+  acts_once = acts-once played fault_lines o yard e;
+  session_order = session-order played fault_lines o yard e;
+  reads_are_current = reads-current played fault_lines o yard e;
+  barriers = barriers-kept played fault_lines o yard e;
+  faults_are_counted = faults-counted played fault_lines o yard e;
+  replacements = replacements-agree played fault_lines o yard e;
+  reports = reports-stand played fault_lines o yard e;
+  trims = trims-stand played fault_lines o yard e;
   chain_is_registered = e.registered;
 }
