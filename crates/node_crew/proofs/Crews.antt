@@ -9,6 +9,7 @@ use Rattle.legal_journal.specs.declared.events.Event.{Event}
 use Rattle.legal_journal.specs.Journal.{IsLegal}
 use Rattle.replica_api.specs.Replica.{Meaning}
 use Rattle.script_text.specs.declared.asks.NamedLine.{NamedLine}
+use Rattle.script_text.specs.declared.faults.FaultLine.{FaultLine}
 use Rattle.turn_scopes.specs.Alone.{OwnSince}
 use Rattle.turn_scopes.specs.Seats.{SeatView, SeatOk}
 use Rattle.node_lines.specs.declared.desk.Desk.{Desk}
@@ -23,7 +24,6 @@ use Rattle.node_course.proofs.Asked.{behind_joined}
 use Rattle.node_course.proofs.Staying.{node_stays}
 use Rattle.run_laws.proofs.Members.{contained-among}
 use Rattle.node_course.proofs.Passing.{phase_passed}
-use Rattle.node_course.proofs.Lines.{phase_before}
 use Rattle.node_course.proofs.Beginning.{rests_then}
 use Rattle.node_crew.specs.Turns.{HasNone}
 use Rattle.node_crew.specs.Crews.{AreAtWork, AreOfPhases, HasSeenAll, CrewRests, CrewStands, SealsOfNodes}
@@ -32,7 +32,7 @@ use Rattle.node_crew.proofs.Working.{at_work_none, get_beyond, get_pushed, own_w
 
 -- A phase has ended, whose lines are those from `from` up to `to`, and the next one hasn't begun: each node has played its lines of it, and
 -- has seen all of the run.
-pub record CrewEnds {A : Type 0} (law : Law) (meaning : Meaning) (lines : List NamedLine) (from to : ℕ) (journal : List Event) (looks : List (Option Looked)) (seat : A → SeatView) (desks : A → List Desk) (workers : List A) : Type 0 where
+pub record CrewEnds {A : Type 0} (law : Law) (meaning : Meaning) (lines : List NamedLine) (faults : List FaultLine) (from to : ℕ) (journal : List Event) (looks : List (Option Looked)) (seat : A → SeatView) (desks : A → List Desk) (workers : List A) : Type 0 where
   pub home : ℕ → ℕ
   pub courses : ℕ → NodeCourse
   pub phase : ℕ
@@ -41,7 +41,7 @@ pub record CrewEnds {A : Type 0} (law : Law) (meaning : Meaning) (lines : List N
   pub starts : BeginsAt lines from phase
   pub ends : BeginsAt lines to (phase + 1)
   pub long : length begins ≡ phase + 1
-  pub made : AreOfPhases lines phase begins journal
+  pub made : AreOfPhases lines faults phase begins journal
   pub seals : SealsOfNodes (length workers) journal
   pub behind : AreBehind journal
   pub seen : (n : ℕ) → 1 ≤ n → n ≤ length workers → HasSeenAll phase begins journal (courses n)
@@ -149,8 +149,8 @@ module _ {A : Type 0} (law : Law) (meaning : Meaning) (lines : List NamedLine) (
 
     pub then_behind : AreBehind journal → AreBehind journal'
     then_behind h = behind_joined law run lines looks' journal journal' since.more since.seen (subst (IsLegal law) t.seen_is t.rests.node.did.legal) h
-        (λ e there. subst (λ n. AreTold lines looks' n journal' × AsksBehind n journal') (sym (own_who (k + 1) since.more e since.own (contained-among since.more e there)))
-        (subst (AreTold lines looks' (k + 1)) t.seen_is t.rests.node.did.told, subst (AsksBehind (k + 1)) t.seen_is t.rests.node.did.behind))
+        (λ e there. inr (subst (λ n. AreTold lines looks' n journal' × AsksBehind n journal') (sym (own_who (k + 1) since.more e since.own (contained-among since.more e there)))
+        (subst (AreTold lines looks' (k + 1)) t.seen_is t.rests.node.did.told, subst (AsksBehind (k + 1)) t.seen_is t.rests.node.did.behind)))
 
   -- one node came to a later journal, at which the others can take the fabric too
   pub still_stands : (k : ℕ) (journal journal' : List Event) (w w' : A) → slice_get workers k ≡ Some w → Grows journal journal'
@@ -163,11 +163,12 @@ module _ {A : Type 0} (law : Law) (meaning : Meaning) (lines : List NamedLine) (
           subst (λ i. SeatOk law meaning i (seat x)) (sym grows.1)
           (seat_later law journal grows.0 (subst (IsLegal law) grows.1 s.node.legal) meaning (seat x) (h j x other.1))
 
-  -- Phases
+-- Phases
 
+module _ {A : Type 0} (law : Law) (meaning : Meaning) (lines : List NamedLine) (faults : List FaultLine) (seat : A → SeatView) (desks : A → List Desk) (workers : List A) where
   -- a phase has ended
   pub crew_ends : (from to : ℕ) (journal : List Event) (looks : List (Option Looked))
-      → (h : CrewEnds law meaning lines from to journal looks seat desks workers) → CrewRests law meaning lines to (h.phase + 1) journal looks seat desks workers
+      → (h : CrewEnds law meaning lines faults from to journal looks seat desks workers) → CrewRests law meaning lines faults to (h.phase + 1) journal looks seat desks workers
   crew_ends from to journal looks h = record {
     home = h.home;
     courses = λ n. next_phase (h.courses n);
@@ -179,18 +180,18 @@ module _ {A : Type 0} (law : Law) (meaning : Meaning) (lines : List NamedLine) (
     seals = h.seals;
     behind = h.behind;
     seen = λ n least most. seen n (h.seen n least most);
-    each = λ j w at. each j w at (seen_at h.seen j w at);
+    each = λ j w at. each j w at (seen_at law meaning lines seat desks workers h.seen j w at);
   }
     where
       -- in the next phase nothing has happened yet
       made : (i : ℕ) (l : NamedLine) → slice_get lines i ≡ Some l → l.phase ≤ h.phase + 1 → (h.phase < l.phase) ⊎ (l.phase ≤ h.phase)
-          → AreAtWork lines l.phase (get_or (h.begins ++ journal ∷ []) l.phase journal) (get_or (h.begins ++ journal ∷ []) (l.phase + 1) journal)
+          → AreAtWork lines faults l.phase (get_or (h.begins ++ journal ∷ []) l.phase journal) (get_or (h.begins ++ journal ∷ []) (l.phase + 1) journal)
       made i l at low (inr old) =
-          subst (λ j. AreAtWork lines l.phase j (get_or (h.begins ++ journal ∷ []) (l.phase + 1) journal)) (sym (get_pushed h.begins l.phase journal))
-          (subst (AreAtWork lines l.phase (get_or h.begins l.phase journal)) (sym (get_pushed h.begins (l.phase + 1) journal)) (h.made i l at old))
+          subst (λ j. AreAtWork lines faults l.phase j (get_or (h.begins ++ journal ∷ []) (l.phase + 1) journal)) (sym (get_pushed h.begins l.phase journal))
+          (subst (AreAtWork lines faults l.phase (get_or h.begins l.phase journal)) (sym (get_pushed h.begins (l.phase + 1) journal)) (h.made i l at old))
       made i l at low (inl new) =
-          subst (λ j. AreAtWork lines l.phase j (get_or (h.begins ++ journal ∷ []) (l.phase + 1) journal)) (sym (now l.phase new))
-          (subst (AreAtWork lines l.phase journal) (sym (now (l.phase + 1) (omega (arith, new)))) (at_work_none lines l.phase journal))
+          subst (λ j. AreAtWork lines faults l.phase j (get_or (h.begins ++ journal ∷ []) (l.phase + 1) journal)) (sym (now l.phase new))
+          (subst (AreAtWork lines faults l.phase journal) (sym (now (l.phase + 1) (omega (arith, new)))) (at_work_none lines faults l.phase journal))
         where
           now : (p : ℕ) → h.phase < p → get_or (h.begins ++ journal ∷ []) p journal ≡ journal
           now p high = get_pushed h.begins p journal ∙ get_beyond h.begins p journal (let long = h.long in omega (arith, long, high))
@@ -210,7 +211,7 @@ module _ {A : Type 0} (law : Law) (meaning : Meaning) (lines : List NamedLine) (
 
   -- all nodes pass by a phase without a line
   all_pass : (from phase : ℕ) (journal : List Event) (looks : List (Option Looked)) → BeginsAt lines from (phase + 1)
-      → CrewRests law meaning lines from phase journal looks seat desks workers → CrewRests law meaning lines from (phase + 1) journal looks seat desks workers
+      → CrewRests law meaning lines faults from phase journal looks seat desks workers → CrewRests law meaning lines faults from (phase + 1) journal looks seat desks workers
   all_pass from phase journal looks b h = crew_ends from from journal looks (record {
     home = h.home;
     courses = h.courses;
@@ -224,30 +225,26 @@ module _ {A : Type 0} (law : Law) (meaning : Meaning) (lines : List NamedLine) (
     seals = h.seals;
     behind = h.behind;
     seen = h.seen;
-    each = λ j w at. passes h.home (h.courses (j + 1)) looks (j + 1) from from phase w (seen_at h.seen j w at).phase_is (omega arith) h.ends (λ i l more less get. absurd (omega (arith, more, less))) (h.each j w at);
+    each = λ j w at. passes law meaning lines seat desks workers h.home (h.courses (j + 1)) looks (j + 1) from from phase w (seen_at law meaning lines seat desks workers h.seen j w at).phase_is (omega arith) h.ends (λ i l more less get. absurd (omega (arith, more, less))) (h.each j w at);
   })
 
   -- .. and by as many as there are
   pub crew_skips : (from n phase : ℕ) (journal : List Event) (looks : List (Option Looked)) → BeginsAt lines from (phase + n)
-      → CrewRests law meaning lines from phase journal looks seat desks workers → CrewRests law meaning lines from (phase + n) journal looks seat desks workers
-  crew_skips from zero phase journal looks b h = let e : phase ≡ phase + zero = omega arith in subst (λ p. CrewRests law meaning lines from p journal looks seat desks workers) e h
+      → CrewRests law meaning lines faults from phase journal looks seat desks workers → CrewRests law meaning lines faults from (phase + n) journal looks seat desks workers
+  crew_skips from zero phase journal looks b h = let e : phase ≡ phase + zero = omega arith in subst (λ p. CrewRests law meaning lines faults from p journal looks seat desks workers) e h
   crew_skips from (suc n) phase journal looks b h =
       let one : BeginsAt lines from (phase + 1) = record {
         before = λ i l at low. let early = h.ends.before i l at low in omega (arith, early);
         behind = λ i l at high. let late = b.behind i l at high in omega (arith, late);
       } in
       let same : (phase + 1) + n ≡ phase + suc n = omega arith in
-      subst (λ p. CrewRests law meaning lines from p journal looks seat desks workers) same
+      subst (λ p. CrewRests law meaning lines faults from p journal looks seat desks workers) same
       (crew_skips from n (phase + 1) journal looks (subst (BeginsAt lines from) (sym same) b) (all_pass from phase journal looks one h))
 
-  -- the lines behind are of the first one's phase or of a later one
-  pub crew_comes : (from phase : ℕ) (journal : List Event) (looks : List (Option Looked)) (line : NamedLine) → slice_get lines from ≡ Some line
-      → CrewRests law meaning lines from phase journal looks seat desks workers → CrewRests law meaning lines from line.phase journal looks seat desks workers
-  crew_comes from phase journal looks line at h =
-      let up = h.ends.behind from line at (omega arith) in
-      let is : phase + (line.phase - phase) ≡ line.phase = omega (arith, up) in
-      subst (λ p. CrewRests law meaning lines from p journal looks seat desks workers) is
-      (crew_skips from (line.phase - phase) phase journal looks (subst (BeginsAt lines from) (sym is) (record {
-        before = λ i l get low. let early = h.ends.before i l get low in omega (arith, early, up);
-        behind = λ i l get high. phase_before lines h.home (length workers) h.lines_are from i line l at get high;
-      })) h)
+  -- all nodes come to a phase at which the lines behind begin
+  pub crew_comes : (from phase q : ℕ) (journal : List Event) (looks : List (Option Looked)) → phase ≤ q → BeginsAt lines from q
+      → CrewRests law meaning lines faults from phase journal looks seat desks workers → CrewRests law meaning lines faults from q journal looks seat desks workers
+  crew_comes from phase q journal looks up b h =
+      let is : phase + (q - phase) ≡ q = omega (arith, up) in
+      subst (λ p. CrewRests law meaning lines faults from p journal looks seat desks workers) is
+      (crew_skips from (q - phase) phase journal looks (subst (BeginsAt lines from) (sym is) b) h)

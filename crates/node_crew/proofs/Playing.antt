@@ -1,12 +1,15 @@
 -- A node's turn, from line to line.
-use Rattle.std.proofs.Common.{◌≡◌, ◌≢◌, refl, sym, ◌∙◌, subst, ℕ, ◌+◌, ◌<◌, ◌≤◌, false, List, [], ◌∷◌, Option, Some, length, arith}
+use Rattle.std.proofs.Common.{◌≡◌, ◌≢◌, refl, sym, ◌∙◌, subst, inl, inr, ⊎_elim, ℕ, ◌+◌, ◌<◌, ◌≤◌, false, List, [], ◌∷◌, Option, Some, length, arith}
 use Rattle.std.specs.Prelude.{◌==◌, slice_get}
+use Rattle.std.proofs.lemmas.Bool.{cases_lt}
 use Rattle.delos_types.specs.declared.entry.Entry.{Entry}
 use Rattle.legal_journal.specs.Law.{Law}
 use Rattle.legal_journal.specs.declared.events.Event.{Event}
 use Rattle.legal_journal.specs.Turns.{AreOthers}
 use Rattle.replica_api.specs.Replica.{Meaning}
 use Rattle.script_text.specs.declared.asks.NamedLine.{NamedLine}
+use Rattle.script_text.specs.declared.faults.FaultAsk.TheVariants.{Stop}
+use Rattle.script_text.specs.declared.faults.FaultLine.{FaultLine}
 use Rattle.virtual_log.specs.Sealing.{SealsNone}
 use Rattle.turn_scopes.specs.Alone.{AreOwn}
 use Rattle.turn_scopes.specs.Floors.{FloorIs}
@@ -17,14 +20,15 @@ use Rattle.node_lines.specs.declared.lines.Looked.{Looked}
 use Rattle.node_lines.specs.Workers.{HasNotLeft, IsKept, MayRun, WorkerOk, sent_by}
 use Rattle.node_lines.specs.Steps.{IsLeft}
 use Rattle.node_lines.proofs.Scoping.{seat_allowed}
-use Rattle.node_course.specs.Script.{BeginsAt}
+use Rattle.node_course.specs.Script.{AreLines, BeginsAt}
+use Rattle.node_course.specs.FaultLines.{AreFaultLines, HasPartIn, NamesThere, StopsMembers}
 use Rattle.node_course.specs.Moments.{NodeCourse}
 use Rattle.node_course.specs.Workers.{CanPlay, LineWent}
 use Rattle.node_course.proofs.Joining.{goes_none, goes_both}
 use Rattle.node_course.proofs.Lines.{at_get}
 use Rattle.node_course.proofs.Passing.{another_line}
-use Rattle.node_course.proofs.Turning.{not_left, trims_low}
-use Rattle.node_crew.specs.Turns.{HasOne, IsUnderWay}
+use Rattle.node_course.proofs.Turning.{goes_on, not_left, trims_low}
+use Rattle.node_crew.specs.Turns.{IsUnderWay}
 
 -- a node with its sessions can take the fabric
 pub worker_stands : (law : Law) (meaning : Meaning) (who : ℕ) (journal : List Event) (seat : SeatView) (desks : List Desk)
@@ -74,18 +78,36 @@ module _ (law : Law) (meaning : Meaning) (lines : List NamedLine) (home : ℕ �
     node = another_line law meaning lines home nodes w.course looks' n from i w.course.phase line seat desks at other w.node;
   }
 
-  -- a node that has a line to play can play it: it hasn't left, so the log isn't trimmed above what it has applied
-  pub can_begin : MayRun law → FloorIs law.floor nodes → (looks : List (Option Looked)) (to : ℕ) (journal : List Event) (seat : SeatView) (desks : List Desk) → HasOne lines from to n
-      → IsUnderWay law meaning lines home nodes c looks n from from journal seat desks → CanPlay n journal seat
-  can_begin run is looks to journal seat desks one u =
-      let there = at_get (λ (l : NamedLine). (1 ≤ l.node) × (l.node ≤ nodes)) lines one.at one.line u.lines_are.nodes_are one.is in
-      let stays : HasNotLeft n c.seen = not_left law run lines looks n c.seen u.node.did.legal u.node.did.told one.at
-      (λ j l low get own. u.node.waiting j l (omega (arith, low, one.behind)) get own) home nodes u.lines_are one.line one.is one.node in
-      subst (λ j. CanPlay n j seat) u.seen_is (record {
-        high = trims_low law nodes is c.seen u.node.did.legal n (omega (arith, there.0, one.node)) (omega (arith, there.1, one.node)) seat.node.replica.cursor stays u.node.reports;
-        stays = stays;
-        reports = u.node.reports;
-      })
+  module _ (faults : List FaultLine) (shelf : List ℕ) (are : AreFaultLines lines faults shelf nodes) where
+    -- a node with a part in a phase is one of them
+    pub part_number : AreLines lines home nodes → HasPartIn lines faults c.phase n → (1 ≤ n) × (n ≤ nodes)
+    part_number lines_are (inl one) =
+        let there = at_get (λ (l : NamedLine). (1 ≤ l.node) × (l.node ≤ nodes)) lines one.at one.line lines_are.nodes_are one.is in
+        (omega (arith, there.0, one.node_is), omega (arith, there.1, one.node_is))
+    part_number lines_are (inr one) = subst (NamesThere shelf nodes) one.asks_is (are.there one.at one.line one.is)
+
+    -- a node with a part in a phase can play a line then: it hasn't left, so the log isn't trimmed above what it has applied
+    pub can_begin : MayRun law → FloorIs law.floor nodes → (looks : List (Option Looked)) (journal : List Event) (seat : SeatView) (desks : List Desk) → HasPartIn lines faults c.phase n
+        → IsUnderWay law meaning lines home nodes c looks n from from journal seat desks → CanPlay n journal seat
+    can_begin run is looks journal seat desks part u = subst (λ j. CanPlay n j seat) u.seen_is (by part)
+      where
+        by : HasPartIn lines faults c.phase n → CanPlay n c.seen seat
+        by (inl one) =
+            let number = part_number u.lines_are (inl one) in
+            let behind : from ≤ one.at = ⊎_elim (λ (less : one.at < from). absurd (omega (arith, u.begins.before one.at one.line one.is less, one.phase_is))) (λ (h : from ≤ one.at). h) (cases_lt one.at from) in
+            let stays : HasNotLeft n c.seen = not_left law run lines looks n c.seen u.node.did.legal u.node.did.told one.at
+            (λ j l low get own. u.node.waiting j l (omega (arith, low, behind)) get own) home nodes u.lines_are one.line one.is one.node_is in
+            record {
+              high = trims_low law nodes is c.seen u.node.did.legal n number.0 number.1 seat.node.replica.cursor stays u.node.reports;
+              stays = stays;
+              reports = u.node.reports;
+            }
+        by (inr one) =
+            let number = part_number u.lines_are (inr one) in
+            let stay : StopsMembers lines one.line.before (Stop n one.after) = subst (StopsMembers lines one.line.before) one.asks_is (are.stay one.at one.line one.is) in
+            goes_on law meaning run lines home nodes c looks n from from c.phase seat desks is u.node number.0 number.1
+            (λ j l low get own. stay j l get
+            (⊎_elim (λ (less : j < one.line.before). less) (λ (high : one.line.before ≤ j). absurd (omega (arith, u.begins.before j l get low, (are.among one.at one.line one.is).below j l get high, one.phase_is))) (cases_lt j one.line.before)) own)
 
 -- the lines of a phase are of it
 pub phase_is : (lines : List NamedLine) (from to i phase : ℕ) (line : NamedLine) → BeginsAt lines from phase → BeginsAt lines to (phase + 1) → from ≤ i → i < to → slice_get lines i ≡ Some line → line.phase ≡ phase

@@ -1,13 +1,16 @@
 -- Whose the events of a phase are.
-use Rattle.std.proofs.Common.{◌≡◌, refl, sym, ap, ◌∙◌, subst, ◌⊎◌, inl, inr, ⊎_elim, ℕ, zero, suc, ◌+◌, ◌<◌, ◌≤◌, List, [], ◌∷◌, ◌++◌, length, arith, append-nil}
+use Rattle.std.proofs.Common.{◌≡◌, refl, sym, ap, ◌∙◌, subst, ◌⊎◌, inl, inr, ⊎_elim, ℕ, zero, suc, ◌+◌, ◌<◌, ◌≤◌, List, [], ◌∷◌, ◌++◌, length, arith, append-nil, append_assoc}
 use Rattle.std.specs.Prelude.{Contains, get_or}
+use Rattle.std.proofs.lemmas.Bool.{cases_lt}
 use Rattle.legal_journal.specs.declared.events.Event.{Event}
 use Rattle.turn_scopes.specs.Alone.{AreOwn, OwnSince}
 use Rattle.script_text.specs.declared.asks.NamedLine.{NamedLine}
+use Rattle.script_text.specs.declared.faults.FaultLine.{FaultLine}
 use Rattle.run_laws.proofs.Members.{Among, contained-among, contains-among}
+use Rattle.node_course.specs.FaultLines.{HasLineIn, HasPartIn, IsOutside}
 use Rattle.node_course.specs.Script.{BeginsAt}
 use Rattle.node_crew.specs.Turns.{HasOne}
-use Rattle.node_crew.specs.Crews.{AreAtWork, HasLineIn, SealsOfNodes}
+use Rattle.node_crew.specs.Crews.{AreAtWork, AreOfPhases, SealsOfNodes}
 use Rattle.node_crew.proofs.Playing.{phase_is}
 
 -- Elements
@@ -43,8 +46,8 @@ own_who who (x ∷ es) e own (inr later) = own_who who es e own.1 later
 -- Phases
 
 -- nothing happened
-pub at_work_none : (lines : List NamedLine) (phase : ℕ) (journal : List Event) → AreAtWork lines phase journal journal
-at_work_none lines phase journal = record { more = []; seen = sym (append-nil journal); each = λ e has. absurd (contained-among [] e has) }
+pub at_work_none : (lines : List NamedLine) (faults : List FaultLine) (phase : ℕ) (journal : List Event) → AreAtWork lines faults phase journal journal
+at_work_none lines faults phase journal = record { more = []; seen = sym (append-nil journal); each = λ e has. absurd (contained-among [] e has) }
 
 -- a line from `from` up to `to` is of the phase whose lines those are
 pub has_line_in : (lines : List NamedLine) (from to phase n : ℕ) → BeginsAt lines from phase → BeginsAt lines to (phase + 1) → HasOne lines from to n → HasLineIn lines phase n
@@ -59,11 +62,38 @@ has_line_in lines from to phase n starts ends one = record {
 -- Moments
 
 -- what came of a phase that is over stays so
-pub worked_before : (lines : List NamedLine) (phase : ℕ) (begins : List (List Event)) (journal journal' : List Event) (p : ℕ) → length begins ≡ phase + 1 → p + 1 ≤ phase
-    → AreAtWork lines p (get_or begins p journal) (get_or begins (p + 1) journal) → AreAtWork lines p (get_or begins p journal') (get_or begins (p + 1) journal')
-worked_before lines phase begins journal journal' p long over h =
-    subst (λ j. AreAtWork lines p j (get_or begins (p + 1) journal')) (get_within begins p journal journal' (omega (arith, long, over)))
-    (subst (AreAtWork lines p (get_or begins p journal)) (get_within begins (p + 1) journal journal' (omega (arith, long, over))) h)
+pub worked_before : (lines : List NamedLine) (faults : List FaultLine) (phase : ℕ) (begins : List (List Event)) (journal journal' : List Event) (p : ℕ) → length begins ≡ phase + 1 → p + 1 ≤ phase
+    → AreAtWork lines faults p (get_or begins p journal) (get_or begins (p + 1) journal) → AreAtWork lines faults p (get_or begins p journal') (get_or begins (p + 1) journal')
+worked_before lines faults phase begins journal journal' p long over h =
+    subst (λ j. AreAtWork lines faults p j (get_or begins (p + 1) journal')) (get_within begins p journal journal' (omega (arith, long, over)))
+    (subst (AreAtWork lines faults p (get_or begins p journal)) (get_within begins (p + 1) journal journal' (omega (arith, long, over))) h)
+
+-- The present phase goes on, by events of number 0, and of nodes with a part in it.
+module _ (lines : List NamedLine) (faults : List FaultLine) (phase : ℕ) (begins : List (List Event)) (journal later whole : List Event) (long : length begins ≡ phase + 1) (seen : whole ≡ journal ++ later)
+    (each : (e : Event) → Contains later e → IsOutside e ⊎ HasPartIn lines faults phase e.who) where
+  works_now : AreAtWork lines faults phase (get_or begins phase journal) (get_or begins (phase + 1) journal) → AreAtWork lines faults phase (get_or begins phase whole) (get_or begins (phase + 1) whole)
+  works_now a =
+      let first : get_or begins phase journal ≡ get_or begins phase whole = get_within begins phase journal whole (omega (arith, long)) in
+      let was : get_or begins (phase + 1) journal ≡ journal = get_beyond begins (phase + 1) journal (omega (arith, long)) in
+      let last : get_or begins (phase + 1) whole ≡ whole = get_beyond begins (phase + 1) whole (omega (arith, long)) in
+      record {
+        more = a.more ++ later;
+        seen = last ∙ (seen ∙ (ap (λ es. es ++ later) (sym was ∙ a.seen) ∙ (append_assoc (get_or begins phase journal) a.more later ∙ ap (λ es. es ++ (a.more ++ later)) first)));
+        each = λ e has. ⊎_elim
+            (λ (old : Among a.more e). a.each e (contains-among a.more e old))
+            (λ (new : Among later e). each e (contains-among later e new))
+            (among_parts a.more later e (contained-among (a.more ++ later) e has));
+      }
+
+  -- so it is of all phases then
+  pub worked_on : AreOfPhases lines faults phase begins journal → AreOfPhases lines faults phase begins whole
+  worked_on h = λ i l get low. ⊎_elim
+      (λ (early : l.phase < phase). worked_before lines faults phase begins journal whole l.phase long (omega (arith, early)) (h i l get low))
+      (λ (late : phase ≤ l.phase).
+      let same : phase ≡ l.phase = omega (arith, low, late) in
+      subst (λ p. AreAtWork lines faults p (get_or begins p whole) (get_or begins (p + 1) whole)) same
+      (works_now (subst (λ p. AreAtWork lines faults p (get_or begins p journal) (get_or begins (p + 1) journal)) (sym same) (h i l get low))))
+      (cases_lt l.phase phase)
 
 -- Seals
 

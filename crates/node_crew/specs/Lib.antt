@@ -1,3 +1,5 @@
 pub mod Notes
+pub mod Stops
 pub mod Turns
 pub mod Crews
+pub mod Arming

@@ -5,12 +5,14 @@ use Rattle.legal_journal.specs.Law.{Law}
 use Rattle.legal_journal.specs.declared.events.Event.{Event}
 use Rattle.replica_api.specs.Replica.{Meaning}
 use Rattle.script_text.specs.declared.asks.NamedLine.{NamedLine}
+use Rattle.script_text.specs.declared.faults.FaultLine.{FaultLine}
 use Rattle.turn_scopes.specs.Seats.{SeatView, node_of}
 use Rattle.node_lines.specs.declared.desk.Desk.{Desk}
 use Rattle.node_lines.specs.declared.lines.Looked.{Looked}
 use Rattle.node_lines.specs.Turns.{AllAnswered}
 use Rattle.node_lines.specs.Workers.{IsKept}
 use Rattle.node_course.specs.Script.{AreLines, BeginsAt}
+use Rattle.node_course.specs.FaultLines.{HasPartIn}
 use Rattle.node_course.specs.Moments.{NodeCourse}
 use Rattle.node_course.specs.Workers.{CanSend, NodeAt}
 
@@ -38,13 +40,14 @@ pub record IsUnderWay (law : Law) (meaning : Meaning) (lines : List NamedLine) (
   pub begins : BeginsAt lines from c.phase
   pub node : NodeAt law meaning lines home nodes c looks n from at c.phase seat desks
 
--- It is the turn of node n in a phase, whose lines are those from `from` up to `to`. None of them was played, and one is the node's.
-pub record IsPlaying (law : Law) (meaning : Meaning) (lines : List NamedLine) (looks : List (Option Looked)) (n from to : ℕ) (journal : List Event) (seat : SeatView) (desks : List Desk) : Type 0 where
+-- It is the turn of node n in a phase, whose lines are those from `from` up to `to`. None of them was played, and one is the node's, or a
+-- stop of the phase is.
+pub record IsPlaying (law : Law) (meaning : Meaning) (lines : List NamedLine) (faults : List FaultLine) (looks : List (Option Looked)) (n from to : ℕ) (journal : List Event) (seat : SeatView) (desks : List Desk) : Type 0 where
   pub home : ℕ → ℕ
   pub nodes : ℕ
   pub course : NodeCourse
   pub ends : BeginsAt lines to (course.phase + 1)
-  pub one : HasOne lines from to n
+  pub one : HasPartIn lines faults course.phase n
   pub now : IsUnderWay law meaning lines home nodes course looks n from from journal seat desks
 
 -- The phase can end at the node: the log is kept from where it is, or the answers of all its sessions were taken.

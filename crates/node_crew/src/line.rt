@@ -1,5 +1,6 @@
 //! A line is played at its node.
 ghost use Rattle.std.specs.Prelude.{◌≡◌, ◌≤◌, ◌+◌, ◌++◌, ◌∷◌, [], ℕ, List, Some, Option, Ok, OnOk, slice_get};
+ghost use Rattle.base_engine.specs.Arming.{LeavesArming};
 ghost use Rattle.turn_scopes.specs.Beside.{Since};
 ghost use Rattle.turn_scopes.specs.Floors.{FloorIs};
 ghost use Rattle.turn_scopes.specs.Seats.{SeatOk};
@@ -91,6 +92,9 @@ fn play_admin<A: Access, S: Replica, C: Chooser>(
     // The phase can end then.
     ensures ends { OnOk result.answer (CanEnd A.beside A.Law.law.floor (A.seen result.access) result.part.seat result.part.desks.items) }
     ensures stands { SeatOk A.Law.law S.meaning (A.seen result.access) result.part.seat }
+
+    // Nothing but a stop arms the node's disk.
+    ensures arming { OnOk result.answer (LeavesArming 0 worker.seat.node.replica result.part.seat.node.replica) }
     ensures since { Since worker.seat.who (A.beside worker.seat.who) (A.seen access) (A.seen result.access) }
     ensures who { result.part.seat.who ≡ worker.seat.who }
     ensures whose { A.who result.access ≡ A.who access }
@@ -144,6 +148,9 @@ pub fn play_line<A: Access, S: Replica, C: Chooser>(
     // The phase can end then.
     ensures ends { OnOk result.answer (CanEnd A.beside A.Law.law.floor (A.seen result.access) result.part.seat result.part.desks.items) }
     ensures stands { SeatOk A.Law.law S.meaning (A.seen result.access) result.part.seat }
+
+    // Nothing but a stop arms the node's disk.
+    ensures arming { OnOk result.answer (LeavesArming 0 worker.seat.node.replica result.part.seat.node.replica) }
     ensures since { Since worker.seat.who (A.beside worker.seat.who) (A.seen access) (A.seen result.access) }
     ensures who { result.part.seat.who ≡ worker.seat.who }
     ensures whose { A.who result.access ≡ A.who access }

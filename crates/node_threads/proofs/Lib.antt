@@ -6,3 +6,7 @@ pub mod Looks
 pub mod Meeting
 pub mod Working
 pub mod Halves
+pub mod Faults
+pub mod Beginning
+pub mod Stirring
+pub mod Coming

@@ -1,45 +1,52 @@
 -- All nodes meet at the end of a phase: what each knows holds of the journal that all have seen then.
-use Rattle.std.proofs.Common.{◌≡◌, ◌≢◌, refl, sym, ap, ◌∙◌, subst, ◌⊎◌, inl, inr, ⊎_elim, ℕ, zero, suc, ◌+◌, ◌-◌, ◌<◌, ◌≤◌, true, List, [], ◌∷◌, ◌++◌, Option, Some, length, append_assoc, arith}
-use Rattle.std.specs.Prelude.{Contains, get_or, slice_get}
-use Rattle.std.specs.List.{All}
+use Rattle.std.proofs.Common.{◌≡◌, ◌≢◌, refl, sym, ap, ◌∙◌, subst, ◌⊎◌, inl, inr, ⊎_elim, ℕ, zero, suc, ◌+◌, ◌-◌, ◌<◌, ◌≤◌, true, false, List, [], ◌∷◌, ◌++◌, Option, Some, length, append-nil, append_assoc, cond, Bool, ne_eqb, arith}
+use Rattle.std.specs.Prelude.{Contains, slice_get}
+use Rattle.std.specs.List.{All, AllByRecursion}
 use Rattle.std.proofs.lemmas.Bool.{cases_lt}
 use Rattle.std.proofs.lemmas.List.{append_cancel_left}
 use Rattle.std.proofs.lemmas.List.Elements.{All-head, All-tail}
 use Rattle.std.proofs.lemmas.Option.{slice_get_within}
 use Rattle.legal_journal.specs.Law.{Law}
+use Rattle.legal_journal.specs.declared.events.FabricCall.{FabricCall}
 use Rattle.legal_journal.specs.declared.events.Event.{Event}
 use Rattle.legal_journal.specs.Journal.{IsLegal}
+use Rattle.legal_journal.specs.FaultCalls.{NoneBy, is_fault, made_by}
+use Rattle.legal_journal.specs.Sealing.{begins_seal}
 use Rattle.legal_journal.specs.Turns.{AreOthers}
 use Rattle.pass_lock.specs.Journal.{Follows}
 use Rattle.replica_api.specs.Replica.{Meaning}
 use Rattle.script_text.specs.declared.asks.NamedLine.{NamedLine}
+use Rattle.script_text.specs.declared.faults.FaultLine.{FaultLine}
 use Rattle.turn_scopes.specs.Floors.{FloorIs}
 use Rattle.turn_scopes.specs.Seats.{SeatView, SeatOk}
 use Rattle.node_lines.specs.declared.desk.Desk.{Desk}
 use Rattle.node_lines.specs.declared.lines.Looked.{Looked}
 use Rattle.node_lines.specs.Workers.{MayRun}
 use Rattle.node_lines.proofs.Staying.{seat_later}
-use Rattle.run_laws.proofs.Members.{Among, contained-among, contains-among}
+use Rattle.run_laws.proofs.Members.{Among, all-at, contained-among, contains-among}
 use Rattle.node_course.specs.Script.{AreLines, BeginsAt}
+use Rattle.node_course.specs.FaultLines.{AreFaultLines, HasPartIn, IsOutside}
 use Rattle.node_course.specs.Moments.{NodeCourse, and_then, first_course}
 use Rattle.node_course.specs.Telling.{AreBehind, AreTold, AsksBehind}
 use Rattle.node_course.specs.Workers.{Rests}
 use Rattle.node_course.proofs.Asked.{behind_joined}
 use Rattle.node_course.proofs.Lines.{phase_before}
+use Rattle.node_course.proofs.Outside.{outside_unsealing}
 use Rattle.node_course.proofs.Staying.{node_stays}
-use Rattle.node_crew.specs.Crews.{AreAtWork, CrewRests, CrewStands, HasSeenAll, SealsOfNodes}
+use Rattle.node_crew.specs.Crews.{AreOfPhases, CrewRests, CrewStands, HasSeenAll, SealsOfNodes}
 use Rattle.node_crew.specs.Notes.{noted}
-use Rattle.node_crew.specs.Turns.{HasOne}
 use Rattle.node_crew.proofs.Crews.{CrewEnds, crew_ends}
 use Rattle.node_crew.proofs.Notes.{noted_size}
 use Rattle.node_crew.proofs.Playing.{worker_stands}
-use Rattle.node_crew.proofs.Working.{among_parts, get_beyond, get_within, has_line_in, worked_before}
+use Rattle.node_crew.proofs.Working.{among_parts, worked_on}
 use Rattle.node_threads.specs.Parts.{CanTakePart, TookPart}
 use Rattle.node_threads.specs.Passes.{signer}
 use Rattle.node_threads.specs.Phases.{BeginsPhase, EndsPhase, WentOn}
+use Rattle.node_threads.specs.Stirring.{MakesFaults, Stirred, calls_by}
 use Rattle.node_threads.specs.Posts.{PostView, all_sufficed, looks_after, seens, workers_of}
 use Rattle.node_threads.proofs.Looks.{AllOwn, looks_own, looks_size}
 use Rattle.node_threads.proofs.Numbers.{AllFollow}
+use Rattle.node_threads.proofs.Stirring.{calls_append, told_faults}
 use Rattle.node_threads.proofs.Posts.{AllMet, MetAt, met_at, some_is, sufficed_at, workers_size}
 
 -- Events
@@ -50,6 +57,27 @@ all_in P es e all has = subst P has.2 (all has.0 e has.1)
 are_others : (n : ℕ) (es : List Event) → All (λ e. e.who ≢ n) es → AreOthers n es
 are_others n [] h = tt
 are_others n (e ∷ es) h = (All-head (λ (x : Event). x.who ≢ n) e es h, are_others n es (All-tail (λ (x : Event). x.who ≢ n) e es h))
+
+-- what a journal has behind what was seen first, by what was seen then
+later_parts : (journal later seen more after whole : List Event) → whole ≡ journal ++ later → seen ≡ journal ++ more → whole ≡ seen ++ after → later ≡ more ++ after
+later_parts journal later seen more after whole is then last = append_cancel_left journal later (more ++ after) (sym is ∙ (last ∙ (ap (λ es. es ++ after) then ∙ append_assoc journal more after)))
+
+none_at : (n : ℕ) (es : List Event) (e : Event) → NoneBy n es → Among es e → e.who ≡ n → is_fault e.call ≡ false
+none_at n [] e h m own = absurd m
+none_at n (x ∷ es) e h (inl same) own = subst (λ (y : Event). y.who ≡ n → is_fault y.call ≡ false) same h.0 own
+none_at n (x ∷ es) e h (inr more) own = none_at n es e h.1 more own
+
+all_of : (P : Event → Type 0) (es : List Event) → ((e : Event) → Contains es e → P e) → AllByRecursion P es
+all_of P [] h = tt
+all_of P (x ∷ es) h = (h x (contains-among (x ∷ es) x (inl refl)), all_of P es (λ e has. h e (contains-among (x ∷ es) e (inr (contained-among es e has)))))
+
+calls_others : (es : List Event) → All (λ e. e.who ≢ 0) es → calls_by 0 es ≡ []
+calls_others [] h = refl
+calls_others (e ∷ es) h = ap (λ t. cond t (e.call ∷ []) [] ++ calls_by 0 es) (ne_eqb e.who 0 (All-head (λ (x : Event). x.who ≢ 0) e es h)) ∙ calls_others es (All-tail (λ (x : Event). x.who ≢ 0) e es h)
+
+unsealed : (b : Bool) → b ≡ true → b ≡ false → ⊥
+unsealed true t f = absurd (cc)
+unsealed false t f = absurd (cc)
 
 -- Phases
 
@@ -75,18 +103,18 @@ next_begins lines home nodes from to phase are starts e = record {
         let above = e.next next.0 next.1 in
         omega (arith, up, above)
 
-module _ {W : Type 0} (law : Law) (meaning : Meaning) (lines : List NamedLine) (from to : ℕ) (seat : W → SeatView) (desks : W → List Desk) (journal : List Event) (ws : List W) (looks : List (Option Looked)) where
+module _ {W : Type 0} (law : Law) (meaning : Meaning) (lines : List NamedLine) (faults : List FaultLine) (phase from to : ℕ) (seat : W → SeatView) (desks : W → List Desk) (journal : List Event) (ws : List W) (looks : List (Option Looked)) where
   -- nodes that rest can take the fabric
-  pub rests_stand : (phase : ℕ) → CrewRests law meaning lines from phase journal looks seat desks ws → CrewStands law meaning journal seat ws
-  rests_stand phase h = λ j w at.
+  pub rests_stand : CrewRests law meaning lines faults from phase journal looks seat desks ws → CrewStands law meaning journal seat ws
+  rests_stand h = λ j w at.
       let inside = slice_get_within ws j w at in
       let s = h.seen (j + 1) (omega arith) (omega (arith, inside)) in
       subst (λ i. SeatOk law meaning i (seat w)) s.seen_is (worker_stands law meaning (j + 1) (h.courses (j + 1)).seen (seat w) (desks w) (h.each j w at).node.ok)
 
-  module _ (h : BeginsPhase law meaning lines from to journal looks seat desks ws) where
+  module _ (h : BeginsPhase law meaning lines faults phase from to journal looks seat desks ws) where
     -- each can take its part in the phase
-    pub all_can : FloorIs law.floor (length ws) → (j : ℕ) (w : W) → slice_get ws j ≡ Some w → CanTakePart law meaning lines from to (1 + j) journal (seat w) (desks w)
-    all_can floor j w at =
+    pub all_can : FloorIs law.floor (length ws) → AreFaultLines lines faults law.shelf (length ws) → (j : ℕ) (w : W) → slice_get ws j ≡ Some w → CanTakePart law meaning lines faults phase from to (1 + j) journal (seat w) (desks w)
+    all_can floor faults_are j w at =
         let inside = slice_get_within ws j w at in
         let s = h.rests.seen (j + 1) (omega arith) (omega (arith, inside)) in
         let number : j + 1 ≡ 1 + j = omega arith in
@@ -97,6 +125,8 @@ module _ {W : Type 0} (law : Law) (meaning : Meaning) (lines : List NamedLine) (
           looks = looks;
           floor = floor;
           lines_are = h.rests.lines_are;
+          faults_are = faults_are;
+          phase_is = s.phase_is;
           starts = subst (BeginsAt lines from) (sym s.phase_is) h.rests.ends;
           ends = subst (λ p. BeginsAt lines to (p + 1)) (sym s.phase_is) h.ends;
           seen_is = s.seen_is;
@@ -105,16 +135,16 @@ module _ {W : Type 0} (law : Law) (meaning : Meaning) (lines : List NamedLine) (
         }
 
   -- The nodes took their parts. Then all have seen `whole`: what they had seen before, and what they made meanwhile.
-  module _ (run : MayRun law) (whole later : List Event) (ps : List (PostView W)) (is : whole ≡ journal ++ later) (legal : IsLegal law whole) (below : All (λ e. e.who < 1 + length ws) later) (spare : Follows signer 0 journal whole)
-      (met : AllMet law meaning lines from to seat desks journal 1 ws ps) (follow : AllFollow 1 (seens ps) whole) where
+  module _ (run : MayRun law) (whole later : List Event) (ps : List (PostView W)) (is : whole ≡ journal ++ later) (legal : IsLegal law whole) (below : All (λ e. e.who < 1 + length ws) later) (strays : List FabricCall) (spared : List Event) (stirred : Bool) (stir : Stirred strays journal spared stirred) (spare : Follows signer 0 spared whole)
+      (met : AllMet law meaning lines faults phase from to seat desks journal 1 ws ps) (follow : AllFollow 1 (seens ps) whole) where
     abbrev NodeMet : ℕ → Type 0
-    NodeMet j = MetAt law meaning lines from to seat desks journal 1 ws ps whole j
+    NodeMet j = MetAt law meaning lines faults phase from to seat desks journal 1 ws ps whole j
 
     node_met : (j : ℕ) → j < length ws → NodeMet j
-    node_met j low = met_at law meaning lines from to seat desks journal 1 ws ps whole met follow j low
+    node_met j low = met_at law meaning lines faults phase from to seat desks journal 1 ws ps whole met follow j low
 
     size : length (workers_of ps) ≡ length ws
-    size = workers_size law meaning lines from to seat desks journal 1 ws ps met
+    size = workers_size law meaning lines faults phase from to seat desks journal 1 ws ps met
 
     -- who had seen all by now that others made since has made nothing
     not_own : (k : ℕ) → Follows signer k journal whole → (e : Event) → Contains later e → e.who ≡ k → ⊥
@@ -122,8 +152,29 @@ module _ {W : Type 0} (law : Law) (meaning : Meaning) (lines : List NamedLine) (
         let same : later ≡ f.0 = append_cancel_left journal later f.0 (sym is ∙ f.1) in
         all_in (λ (x : Event). x.who ≢ k) f.0 e f.2 (subst (λ es. Contains es e) same has) own
 
-    -- each event since is of a node with a line
-    worked : (e : Event) → Contains later e → (1 ≤ e.who) × (e.who ≤ length ws) × HasOne lines from to e.who
+    -- what number 0 made since breaks or mends something, or has an old message come again
+    stirred_is : later ≡ stir.more ++ spare.0
+    stirred_is = later_parts journal later spared stir.more spare.0 whole is stir.seen spare.1
+
+    own_fault : (e : Event) → Contains later e → e.who ≡ 0 → is_fault e.call ≡ true
+    own_fault e has own = ⊎_elim
+        (λ (then : Among stir.more e). all-at (λ (x : Event). x.who ≡ 0 → is_fault x.call ≡ true) stir.more e stir.faults then own)
+        (λ (after : Among spare.0 e). absurd (all_in (λ (x : Event). x.who ≢ 0) spare.0 e spare.2 (contains-among spare.0 e after) own))
+        (among_parts stir.more spare.0 e (contained-among (stir.more ++ spare.0) e (subst (λ es. Contains es e) stirred_is has)))
+
+    -- and what a node made doesn't
+    node_fault : (j : ℕ) → j < length ws → (e : Event) → Contains later e → e.who ≡ 1 + j → is_fault e.call ≡ false
+    node_fault j low e has own =
+        let x = node_met j low in
+        let q = x.met.part.quiet in
+        let f = x.follows in
+        ⊎_elim
+        (λ (then : Among q.more e). none_at (1 + j) q.more e q.none then own)
+        (λ (after : Among f.0 e). absurd (all_in (λ (x : Event). x.who ≢ 1 + j) f.0 e f.2 (contains-among f.0 e after) own))
+        (among_parts q.more f.0 e (contained-among (q.more ++ f.0) e (subst (λ es. Contains es e) (later_parts journal later x.met.seen q.more f.0 whole is q.seen f.1) has)))
+
+    -- each event since is of number 0, or of a node with a line
+    worked : (e : Event) → Contains later e → IsOutside e ⊎ ((1 ≤ e.who) × (e.who ≤ length ws) × HasPartIn lines faults phase e.who)
     worked e has = ⊎_elim
         (λ (some : 0 < e.who).
         let low : e.who < 1 + length ws = all_in (λ (x : Event). x.who < 1 + length ws) later e below has in
@@ -131,13 +182,30 @@ module _ {W : Type 0} (law : Law) (meaning : Meaning) (lines : List NamedLine) (
         let number : 1 + j ≡ e.who = omega (arith, some) in
         let x = node_met j (omega (arith, low, some)) in
         ⊎_elim
-        (λ (one : HasOne lines from to (1 + j)). (omega (arith, some), omega (arith, low), subst (HasOne lines from to) number one))
+        (λ (one : HasPartIn lines faults phase (1 + j)). inr (omega (arith, some), omega (arith, low), subst (HasPartIn lines faults phase) number one))
         (λ (still : x.met.seen ≡ journal). absurd (not_own (1 + j) (subst (λ es. Follows signer (1 + j) es whole) still x.follows) e has (sym number)))
         x.met.part.works)
-        (λ (none : e.who ≤ 0). absurd (not_own 0 spare e has (omega (arith, none))))
+        (λ (none : e.who ≤ 0). let own : e.who ≡ 0 = omega (arith, none) in inl (own, inr (own_fault e has own)))
         (cases_lt 0 e.who)
 
-    pub went : WentOn lines from to (length ws) journal whole
+    own_or_none : (e : Event) → Contains later e → (e.who ≡ 0) ⊎ (is_fault e.call ≡ false)
+    own_or_none e has = ⊎_elim
+        (λ (some : 0 < e.who).
+        let low : e.who < 1 + length ws = all_in (λ (x : Event). x.who < 1 + length ws) later e below has in
+        inr (node_fault (e.who - 1) (omega (arith, low, some)) e has (omega (arith, some))))
+        (λ (none : e.who ≤ 0). inl (omega (arith, none)))
+        (cases_lt 0 e.who)
+
+    -- where memory sufficed the stirrer, these are all faults since
+    pub stirs : stirred ≡ true → MakesFaults strays journal whole
+    stirs so = record {
+      more = later;
+      seen = is;
+      made = told_faults later (all_of (λ (e : Event). (e.who ≡ 0) ⊎ (is_fault e.call ≡ false)) later own_or_none) (all_of (λ (e : Event). e.who ≡ 0 → is_fault e.call ≡ true) later own_fault)
+          ∙ ap (made_by 0) (ap (calls_by 0) stirred_is ∙ (calls_append 0 stir.more spare.0 ∙ (ap (λ l. calls_by 0 stir.more ++ l) (calls_others spare.0 spare.2) ∙ (append-nil (calls_by 0 stir.more) ∙ stir.made so))));
+    }
+
+    pub went : WentOn lines faults phase (length ws) journal whole
     went = record { later = later; is = is; each = worked }
 
     -- whatever it came to, each can take the fabric
@@ -150,22 +218,22 @@ module _ {W : Type 0} (law : Law) (meaning : Meaning) (lines : List NamedLine) (
         (subst (λ es. SeatOk law meaning es (seat x.met.after)) (sym x.follows.1)
         (seat_later law x.met.seen x.follows.0 (subst (IsLegal law) x.follows.1 legal) meaning (seat x.met.after) x.met.part.stands))
 
-    all_own : (n : ℕ) (xs : List W) (qs : List (PostView W)) → AllMet law meaning lines from to seat desks journal n xs qs → AllOwn lines n qs
+    all_own : (n : ℕ) (xs : List W) (qs : List (PostView W)) → AllMet law meaning lines faults phase from to seat desks journal n xs qs → AllOwn lines n qs
     all_own n [] [] m = tt
     all_own n (x ∷ xs) (q ∷ qs) m = (m.0.part.own, all_own (suc n) xs qs m.1)
     all_own n [] (q ∷ qs) m = absurd m
     all_own n (x ∷ xs) [] m = absurd m
 
     -- Where memory sufficed, their courses went on.
-    module _ (h : BeginsPhase law meaning lines from to journal looks seat desks ws) (sufficed : all_sufficed ps ≡ true) where
+    module _ (h : BeginsPhase law meaning lines faults phase from to journal looks seat desks ws) (sufficed : all_sufficed ps ≡ true) where
       abbrev looks' : List (Option Looked)
       looks' = looks_after looks ps
 
       -- node n rests behind the phase, by a course that has seen all
       record Carried (n : ℕ) (w : W) : Type 0 where
         pub course : NodeCourse
-        pub seen : HasSeenAll h.phase h.rests.begins whole course
-        pub rests : Rests law meaning lines h.rests.home (length ws) course looks' n to (h.phase + 1) (seat w) (desks w)
+        pub seen : HasSeenAll phase h.rests.begins whole course
+        pub rests : Rests law meaning lines h.rests.home (length ws) course looks' n to (phase + 1) (seat w) (desks w)
 
       carry : (j : ℕ) (x : NodeMet j) → Carried (j + 1) x.met.after
       carry j x =
@@ -175,7 +243,7 @@ module _ {W : Type 0} (law : Law) (meaning : Meaning) (lines : List NamedLine) (
           let number : 1 + j ≡ j + 1 = omega arith in
           let after = x.met.after in
           let notes = x.post.notes in
-          let part = subst (λ n. TookPart law meaning lines from to n journal (seat x.worker) (desks x.worker) x.met.seen (seat after) (desks after) notes x.post.sufficed) number x.met.part in
+          let part = subst (λ n. TookPart law meaning lines faults phase from to n journal (seat x.worker) (desks x.worker) x.met.seen (seat after) (desks after) notes x.post.sufficed) number x.met.part in
           let t = part.goes (sufficed_at ps sufficed j x.post x.there) h.rests.home (length ws) c looks h.rests.lines_are (subst (BeginsAt lines from) (sym s.phase_is) h.rests.ends) (subst (λ p. BeginsAt lines to (p + 1)) (sym s.phase_is) h.ends) s.seen_is
           (subst (λ p. Rests law meaning lines h.rests.home (length ws) c looks (j + 1) from p (seat x.worker) (desks x.worker)) (sym s.phase_is) (h.rests.each j x.worker x.at)) in
           let f = x.follows in
@@ -215,13 +283,13 @@ module _ {W : Type 0} (law : Law) (meaning : Meaning) (lines : List NamedLine) (
       number_is : (n : ℕ) → IsNode n → (n - 1) + 1 ≡ n
       number_is n k = let low = k.0 in omega (arith, low)
 
-      seen : (n : ℕ) → IsNode n → (d : IsNode n ⊎ (IsNode n → ⊥)) → HasSeenAll h.phase h.rests.begins whole (course_of n d)
+      seen : (n : ℕ) → IsNode n → (d : IsNode n ⊎ (IsNode n → ⊥)) → HasSeenAll phase h.rests.begins whole (course_of n d)
       unfolding course_of carry
       seen n there (inl k) = (carry (n - 1) (index n k)).seen
       seen n there (inr none) = absurd (none there)
 
       each : (j : ℕ) (w : W) → slice_get (workers_of ps) j ≡ Some w → (d : IsNode (j + 1) ⊎ (IsNode (j + 1) → ⊥))
-          → Rests law meaning lines h.rests.home (length ws) (course_of (j + 1) d) looks' (j + 1) to (h.phase + 1) (seat w) (desks w)
+          → Rests law meaning lines h.rests.home (length ws) (course_of (j + 1) d) looks' (j + 1) to (phase + 1) (seat w) (desks w)
       unfolding course_of carry
       each j w at (inl k) =
           let i : ℕ = (j + 1) - 1 in
@@ -229,8 +297,8 @@ module _ {W : Type 0} (law : Law) (meaning : Meaning) (lines : List NamedLine) (
           let c = carry i x in
           let back : i ≡ j = omega arith in
           let same : x.met.after ≡ w = some_is x.met.after w (sym x.is ∙ (ap (slice_get (workers_of ps)) back ∙ at)) in
-          subst (λ y. Rests law meaning lines h.rests.home (length ws) c.course looks' (j + 1) to (h.phase + 1) (seat y) (desks y)) same
-          (subst (λ n. Rests law meaning lines h.rests.home (length ws) c.course looks' n to (h.phase + 1) (seat x.met.after) (desks x.met.after)) (number_is (j + 1) k) c.rests)
+          subst (λ y. Rests law meaning lines h.rests.home (length ws) c.course looks' (j + 1) to (phase + 1) (seat y) (desks y)) same
+          (subst (λ n. Rests law meaning lines h.rests.home (length ws) c.course looks' n to (phase + 1) (seat x.met.after) (desks x.met.after)) (number_is (j + 1) k) c.rests)
       each j w at (inr none) = absurd (none (let inside = slice_get_within (workers_of ps) j w at in (omega arith, omega (arith, inside, size))))
 
       -- what a node told it told as its lines asked, and its requests for trims came behind reports
@@ -241,44 +309,30 @@ module _ {W : Type 0} (law : Law) (meaning : Meaning) (lines : List NamedLine) (
           (subst (AreTold lines looks' ((n - 1) + 1)) c.seen.seen_is c.rests.node.did.told, subst (AsksBehind ((n - 1) + 1)) c.seen.seen_is c.rests.node.did.behind)
 
       behind : AreBehind whole
-      behind = behind_joined law run lines looks' journal whole later is legal h.rests.behind (λ e has. let w = worked e has in told e.who (w.0, w.1))
+      behind = behind_joined law run lines looks' journal whole later is legal h.rests.behind (λ e has. ⊎_elim (λ (o : IsOutside e). inl o) (λ (w : (1 ≤ e.who) × (e.who ≤ length ws) × HasPartIn lines faults phase e.who). inr (told e.who (w.0, w.1))) (worked e has))
 
       seals : SealsOfNodes (length ws) whole
       seals = λ e has begins. ⊎_elim
           (λ (was : Among journal e). h.rests.seals e (contains-among journal e was) begins)
-          (λ (now : Among later e). let w = worked e (contains-among later e now) in (w.0, w.1))
+          (λ (now : Among later e). ⊎_elim
+          (λ (o : IsOutside e). absurd (unsealed (begins_seal e) begins (outside_unsealing (e ∷ []) e (o, tt) (inl refl))))
+          (λ (w : (1 ≤ e.who) × (e.who ≤ length ws) × HasPartIn lines faults phase e.who). (w.0, w.1))
+          (worked e (contains-among later e now)))
           (among_parts journal later e (contained-among (journal ++ later) e (subst (λ es. Contains es e) is has)))
 
-      made : (i : ℕ) (l : NamedLine) → slice_get lines i ≡ Some l → l.phase ≤ h.phase → AreAtWork lines l.phase (get_or h.rests.begins l.phase whole) (get_or h.rests.begins (l.phase + 1) whole)
-      made i l get low = ⊎_elim
-          (λ (early : l.phase < h.phase). worked_before lines h.phase h.rests.begins journal whole l.phase h.rests.long (omega (arith, early)) (h.rests.made i l get low))
-          (λ (late : h.phase ≤ l.phase).
-          let same : h.phase ≡ l.phase = omega (arith, low, late) in
-          subst (λ p. AreAtWork lines p (get_or h.rests.begins p whole) (get_or h.rests.begins (p + 1) whole)) same
-          (now (subst (λ p. AreAtWork lines p (get_or h.rests.begins p journal) (get_or h.rests.begins (p + 1) journal)) (sym same) (h.rests.made i l get low))))
-          (cases_lt l.phase h.phase)
-        where
-          -- the present phase goes on by events of nodes with lines in it
-          now : AreAtWork lines h.phase (get_or h.rests.begins h.phase journal) (get_or h.rests.begins (h.phase + 1) journal) → AreAtWork lines h.phase (get_or h.rests.begins h.phase whole) (get_or h.rests.begins (h.phase + 1) whole)
-          now a =
-              let long = h.rests.long in
-              let first : get_or h.rests.begins h.phase journal ≡ get_or h.rests.begins h.phase whole = get_within h.rests.begins h.phase journal whole (omega (arith, long)) in
-              let was : get_or h.rests.begins (h.phase + 1) journal ≡ journal = get_beyond h.rests.begins (h.phase + 1) journal (omega (arith, long)) in
-              let last : get_or h.rests.begins (h.phase + 1) whole ≡ whole = get_beyond h.rests.begins (h.phase + 1) whole (omega (arith, long)) in
-              record {
-                more = a.more ++ later;
-                seen = last ∙ (is ∙ (ap (λ es. es ++ later) (sym was ∙ a.seen) ∙ (append_assoc (get_or h.rests.begins h.phase journal) a.more later ∙ ap (λ es. es ++ (a.more ++ later)) first)));
-                each = λ e has. ⊎_elim
-                    (λ (old : Among a.more e). a.each e (contains-among a.more e old))
-                    (λ (new : Among later e). has_line_in lines from to h.phase e.who h.rests.ends h.ends (worked e (contains-among later e new)).2)
-                    (among_parts a.more later e (contained-among (a.more ++ later) e has));
-              }
+      made : AreOfPhases lines faults phase h.rests.begins whole
+      made = worked_on lines faults phase h.rests.begins journal later whole h.rests.long is
+          (λ e has. ⊎_elim
+          (λ (o : IsOutside e). inl o)
+          (λ (w : (1 ≤ e.who) × (e.who ≤ length ws) × HasPartIn lines faults phase e.who). inr w.2)
+          (worked e has))
+          h.rests.made
 
-      crew_met : CrewEnds law meaning lines from to whole looks' seat desks (workers_of ps)
+      crew_met : CrewEnds law meaning lines faults from to whole looks' seat desks (workers_of ps)
       crew_met = record {
         home = h.rests.home;
         courses = λ n. course_of n (node_or n);
-        phase = h.phase;
+        phase = phase;
         begins = h.rests.begins;
         lines_are = subst (AreLines lines h.rests.home) (sym size) h.rests.lines_are;
         starts = h.rests.ends;
@@ -288,8 +342,9 @@ module _ {W : Type 0} (law : Law) (meaning : Meaning) (lines : List NamedLine) (
         seals = subst (λ n. SealsOfNodes n whole) (sym size) seals;
         behind = behind;
         seen = λ n least most. seen n (least, omega (arith, most, size)) (node_or n);
-        each = λ j w at. subst (λ n. Rests law meaning lines h.rests.home n (course_of (j + 1) (node_or (j + 1))) looks' (j + 1) to (h.phase + 1) (seat w) (desks w)) (sym size) (each j w at (node_or (j + 1)));
+        each = λ j w at. subst (λ n. Rests law meaning lines h.rests.home n (course_of (j + 1) (node_or (j + 1))) looks' (j + 1) to (phase + 1) (seat w) (desks w)) (sym size) (each j w at (node_or (j + 1)));
       }
 
-      pub crew_rested : (phase : ℕ) × CrewRests law meaning lines to phase whole looks' seat desks (workers_of ps)
-      crew_rested = (crew_met.phase + 1, crew_ends law meaning lines seat desks (workers_of ps) from to whole looks' crew_met)
+      pub crew_rested : CrewRests law meaning lines faults to (phase + 1) whole looks' seat desks (workers_of ps)
+      unfolding crew_met
+      crew_rested = crew_ends law meaning lines faults seat desks (workers_of ps) from to whole looks' crew_met

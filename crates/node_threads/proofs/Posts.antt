@@ -8,9 +8,12 @@ use Rattle.legal_journal.specs.declared.events.Event.{Event}
 use Rattle.pass_lock.specs.Journal.{Follows}
 use Rattle.replica_api.specs.Replica.{Meaning}
 use Rattle.script_text.specs.declared.asks.NamedLine.{NamedLine}
+use Rattle.script_text.specs.declared.faults.FaultLine.{FaultLine}
 use Rattle.turn_scopes.specs.Seats.{SeatView}
 use Rattle.locked_turns.specs.Locked.{LockedView}
 use Rattle.node_lines.specs.declared.desk.Desk.{Desk}
+use Rattle.node_course.specs.FaultLines.{ArmedBy, stops_in}
+use Rattle.node_crew.specs.Arming.{AreArmed}
 use Rattle.node_crew.specs.declared.note.Note.{Note}
 use Rattle.node_crew.specs.Notes.{AreNotesOf}
 use Rattle.node_threads.specs.Parts.{CanTakePart, TookPart}
@@ -57,22 +60,22 @@ module _ {W : Type 0} where
   pub workers_more : (p : PostView W) (ps : List (PostView W)) (w : W) → p.worker ≡ Some w → w ∷ workers_of ps ≡ workers_of (p ∷ ps)
   workers_more p ps w is = sym (ap (λ o. cons_some o (workers_of ps)) is)
 
-  module _ (law : Law) (meaning : Meaning) (lines : List NamedLine) (from to : ℕ) (seat : W → SeatView) (desks : W → List Desk) (journal : List Event) where
+  module _ (law : Law) (meaning : Meaning) (lines : List NamedLine) (faults : List FaultLine) (phase from to : ℕ) (seat : W → SeatView) (desks : W → List Desk) (journal : List Event) where
     -- each can take its part that is seated
-    pub may_work : (n : ℕ) (ws : List W) → ((j : ℕ) (w : W) → slice_get ws j ≡ Some w → CanTakePart law meaning lines from to (n + j) journal (seat w) (desks w)) → AllMayWork law meaning lines from to seat desks (seated_from n journal ws)
+    pub may_work : (n : ℕ) (ws : List W) → ((j : ℕ) (w : W) → slice_get ws j ≡ Some w → CanTakePart law meaning lines faults phase from to (n + j) journal (seat w) (desks w)) → AllMayWork law meaning lines faults phase from to seat desks (seated_from n journal ws)
     may_work n ws can = record { each = λ i d low. each n ws can i d low }
       where
-        each : (n : ℕ) (ws : List W) → ((j : ℕ) (w : W) → slice_get ws j ≡ Some w → CanTakePart law meaning lines from to (n + j) journal (seat w) (desks w)) → (i : ℕ) (d : PostView W) → i < length (seated_from n journal ws)
-            → MayWork law meaning lines from to seat desks (slice_index_or (seated_from n journal ws) i d)
+        each : (n : ℕ) (ws : List W) → ((j : ℕ) (w : W) → slice_get ws j ≡ Some w → CanTakePart law meaning lines faults phase from to (n + j) journal (seat w) (desks w)) → (i : ℕ) (d : PostView W) → i < length (seated_from n journal ws)
+            → MayWork law meaning lines faults phase from to seat desks (slice_index_or (seated_from n journal ws) i d)
         each n [] can i d low = absurd (omega (arith, low))
         each n (w ∷ ws) can zero d low = let e : n + 0 ≡ n = omega arith in record {
           n = n;
           journal = journal;
           worker = w;
           is = refl;
-          can = subst (λ k. CanTakePart law meaning lines from to k journal (seat w) (desks w)) e (can 0 w refl);
+          can = subst (λ k. CanTakePart law meaning lines faults phase from to k journal (seat w) (desks w)) e (can 0 w refl);
         }
-        each n (w ∷ ws) can (suc i) d low = each (suc n) ws (λ j x at. let e : n + suc j ≡ suc n + j = omega arith in subst (λ k. CanTakePart law meaning lines from to k journal (seat x) (desks x)) e (can (suc j) x at)) i d (omega (arith, low))
+        each n (w ∷ ws) can (suc i) d low = each (suc n) ws (λ j x at. let e : n + suc j ≡ suc n + j = omega arith in subst (λ k. CanTakePart law meaning lines faults phase from to k journal (seat x) (desks x)) e (can (suc j) x at)) i d (omega (arith, low))
 
     -- node n, whose worker this was, took its part
     pub record Met (n : ℕ) (w : W) (p : PostView W) : Type 0 where
@@ -80,7 +83,7 @@ module _ {W : Type 0} where
       pub access_is : p.access ≡ Some (view_of n seen)
       pub after : W
       pub worker_is : p.worker ≡ Some after
-      pub part : TookPart law meaning lines from to n journal (seat w) (desks w) seen (seat after) (desks after) p.notes p.sufficed
+      pub part : TookPart law meaning lines faults phase from to n journal (seat w) (desks w) seen (seat after) (desks after) p.notes p.sufficed
 
     -- so did the nodes from this number on
     abbrev pub AllMet : ℕ → List W → List (PostView W) → Type 0
@@ -88,7 +91,7 @@ module _ {W : Type 0} where
     AllMet n (w ∷ ws) (p ∷ ps) = Met n w p × AllMet (suc n) ws ps
     AllMet n ws ps = ⊥
 
-    met_of : (n : ℕ) (w : W) (p : PostView W) → Worked law meaning lines from to seat desks (seated n journal w) p → Met n w p
+    met_of : (n : ℕ) (w : W) (p : PostView W) → Worked law meaning lines faults phase from to seat desks (seated n journal w) p → Met n w p
     met_of n w p h =
         let access : view_of n journal ≡ view_of h.n h.journal = some_is (view_of n journal) (view_of h.n h.journal) (ap (λ (q : PostView W). q.access) h.was) in
         let n_is : h.n ≡ n = sym (ap (λ (l : LockedView). l.who) access) in
@@ -99,12 +102,12 @@ module _ {W : Type 0} where
           access_is = h.access_is ∙ ap (λ k. Some (view_of k h.seen)) n_is;
           after = h.after;
           worker_is = h.worker_is;
-          part = subst (λ k. TookPart law meaning lines from to k journal (seat w) (desks w) h.seen (seat h.after) (desks h.after) p.notes p.sufficed) n_is
-              (subst (λ j. TookPart law meaning lines from to h.n j (seat w) (desks w) h.seen (seat h.after) (desks h.after) p.notes p.sufficed) journal_is
-              (subst (λ x. TookPart law meaning lines from to h.n h.journal (seat x) (desks x) h.seen (seat h.after) (desks h.after) p.notes p.sufficed) before_is h.part));
+          part = subst (λ k. TookPart law meaning lines faults phase from to k journal (seat w) (desks w) h.seen (seat h.after) (desks h.after) p.notes p.sufficed) n_is
+              (subst (λ j. TookPart law meaning lines faults phase from to h.n j (seat w) (desks w) h.seen (seat h.after) (desks h.after) p.notes p.sufficed) journal_is
+              (subst (λ x. TookPart law meaning lines faults phase from to h.n h.journal (seat x) (desks x) h.seen (seat h.after) (desks h.after) p.notes p.sufficed) before_is h.part));
         }
 
-    pub all_met : (n : ℕ) (ws : List W) (ps : List (PostView W)) → length ps ≡ length ws → AllWorked law meaning lines from to seat desks (seated_from n journal ws) ps → AllMet n ws ps
+    pub all_met : (n : ℕ) (ws : List W) (ps : List (PostView W)) → length ps ≡ length ws → AllWorked law meaning lines faults phase from to seat desks (seated_from n journal ws) ps → AllMet n ws ps
     all_met n [] [] size h = tt
     all_met n [] (p ∷ ps) size h = absurd (omega (arith, size))
     all_met n (w ∷ ws) [] size h = absurd (omega (arith, size))
@@ -131,6 +134,31 @@ module _ {W : Type 0} where
     workers_size n (w ∷ ws) (p ∷ ps) m = ap length (sym (workers_more p ps m.0.after m.0.worker_is)) ∙ (let rest = workers_size (suc n) ws ps m.1 in omega (arith, rest))
     workers_size n [] (p ∷ ps) m = absurd m
     workers_size n (w ∷ ws) [] m = absurd m
+
+    armed_at : (n : ℕ) (ws : List W) (ps : List (PostView W)) → AllMet n ws ps → all_sufficed ps ≡ true → (j : ℕ) (was now : W) → slice_get ws j ≡ Some was → slice_get (workers_of ps) j ≡ Some now
+        → ArmedBy (stops_in (n + j) phase faults) (seat was).node.replica (seat now).node.replica
+    armed_at n [] ps m all j was now p q = absurd (cc)
+    armed_at n (w ∷ ws) [] m all j was now p q = absurd m
+    armed_at n (w ∷ ws) (x ∷ ps) m all zero was now p q =
+        let so = both_so x.sufficed (all_sufficed ps) all in
+        let number : n ≡ n + 0 = omega arith in
+        let there : slice_get (workers_of (x ∷ ps)) 0 ≡ Some m.0.after = ap (λ l. slice_get l 0) (sym (workers_more x ps m.0.after m.0.worker_is)) in
+        subst (λ k. ArmedBy (stops_in k phase faults) (seat was).node.replica (seat now).node.replica) number
+        (subst (λ y. ArmedBy (stops_in n phase faults) (seat was).node.replica (seat y).node.replica) (some_is m.0.after now (sym there ∙ q))
+        (subst (λ y. ArmedBy (stops_in n phase faults) (seat y).node.replica (seat m.0.after).node.replica) (some_is w was p) (m.0.part.armed so.0)))
+    armed_at n (w ∷ ws) (x ∷ ps) m all (suc j) was now p q =
+        let so = both_so x.sufficed (all_sufficed ps) all in
+        let number : suc n + j ≡ n + suc j = omega arith in
+        let there : slice_get (workers_of ps) j ≡ Some now = ap (λ l. slice_get l (suc j)) (workers_more x ps m.0.after m.0.worker_is) ∙ q in
+        subst (λ k. ArmedBy (stops_in k phase faults) (seat was).node.replica (seat now).node.replica) number (armed_at (suc n) ws ps m.1 so.1 j was now p there)
+
+    -- where memory sufficed, each node's disk was armed by its stops of the phase, and by nothing else
+    pub all_armed : (ws : List W) (ps : List (PostView W)) → AllMet 1 ws ps → all_sufficed ps ≡ true → AreArmed (λ n. stops_in n phase faults) (λ w. (seat w).node.replica) ws (workers_of ps)
+    all_armed ws ps m all = record {
+      size = workers_size 1 ws ps m;
+      each = λ j was now p q. let number : 1 + j ≡ j + 1 = omega arith in
+          subst (λ k. ArmedBy (stops_in k phase faults) (seat was).node.replica (seat now).node.replica) number (armed_at 1 ws ps m all j was now p q);
+    }
 
     -- a node by its index: its worker before and behind, and its post, and that the journal goes on behind what was seen there, by events of
     -- others
@@ -171,7 +199,7 @@ module _ {W : Type 0} where
             access_is = x.met.access_is ∙ ap (λ k. Some (view_of k x.met.seen)) e;
             after = x.met.after;
             worker_is = x.met.worker_is;
-            part = subst (λ k. TookPart law meaning lines from to k journal (seat x.worker) (desks x.worker) x.met.seen (seat x.met.after) (desks x.met.after) x.post.notes x.post.sufficed) e x.met.part;
+            part = subst (λ k. TookPart law meaning lines faults phase from to k journal (seat x.worker) (desks x.worker) x.met.seen (seat x.met.after) (desks x.met.after) x.post.notes x.post.sufficed) e x.met.part;
           };
           is = ap (λ l. slice_get l (suc j)) (sym (workers_more p ps m.0.after m.0.worker_is)) ∙ x.is;
           follows = subst (λ k. Follows signer k x.met.seen whole) e x.follows;

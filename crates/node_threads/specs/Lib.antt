@@ -4,3 +4,5 @@ pub mod Phases
 pub mod Posts
 pub mod Running
 pub mod Each
+pub mod Outset
+pub mod Stirring

@@ -5,6 +5,7 @@ use Rattle.legal_journal.specs.Law.{Law}
 use Rattle.legal_journal.specs.declared.events.Event.{Event}
 use Rattle.replica_api.specs.Replica.{Meaning}
 use Rattle.script_text.specs.declared.asks.NamedLine.{NamedLine}
+use Rattle.script_text.specs.declared.faults.FaultLine.{FaultLine}
 use Rattle.turn_scopes.specs.Seats.{SeatView}
 use Rattle.locked_turns.specs.Locked.{LockedView}
 use Rattle.node_lines.specs.declared.desk.Desk.{Desk}
@@ -80,14 +81,14 @@ module _ {W : Type 0} where
   abbrev pub AllNoted : ℕ → List (PostView W) → Type 0
   AllNoted lines posts = AllByRecursion (λ p. AllByRecursion (λ note. note.line < lines) p.notes) posts
 
-  module _ (law : Law) (meaning : Meaning) (lines : List NamedLine) (from to : ℕ) (seat : W → SeatView) (desks : W → List Desk) where
+  module _ (law : Law) (meaning : Meaning) (lines : List NamedLine) (faults : List FaultLine) (phase from to : ℕ) (seat : W → SeatView) (desks : W → List Desk) where
     -- the post's node can take its part in the phase
     pub record MayWork (p : PostView W) : Type 0 where
       pub n : ℕ
       pub journal : List Event
       pub worker : W
       pub is : p ≡ seated n journal worker
-      pub can : CanTakePart law meaning lines from to n journal (seat worker) (desks worker)
+      pub can : CanTakePart law meaning lines faults phase from to n journal (seat worker) (desks worker)
 
     -- it took it
     pub record Worked (p p' : PostView W) : Type 0 where
@@ -99,7 +100,7 @@ module _ {W : Type 0} where
       pub access_is : p'.access ≡ Some (view_of n seen)
       pub after : W
       pub worker_is : p'.worker ≡ Some after
-      pub part : TookPart law meaning lines from to n journal (seat before) (desks before) seen (seat after) (desks after) p'.notes p'.sufficed
+      pub part : TookPart law meaning lines faults phase from to n journal (seat before) (desks before) seen (seat after) (desks after) p'.notes p'.sufficed
 
     pub record AllMayWork (ps : List (PostView W)) : Type 0 where
       pub each : (i : ℕ) (d : PostView W) → i < length ps → MayWork (slice_index_or ps i d)

@@ -2,6 +2,7 @@
 ghost use Rattle.std.specs.Prelude.{◌≡◌, ◌≤◌, [], length, Some, None, true, IsSome};
 ghost use Rattle.pass_lock.specs.Pass.{one_part};
 ghost use Rattle.node_lines.specs.Workers.{MayRun};
+ghost use Rattle.node_course.specs.FaultLines.{AreOfPhase};
 ghost use Rattle.node_crew.specs.Turns.{MaySendAll};
 ghost use Rattle.node_threads.specs.Posts.{MayWork, Worked, seen_of, who_of};
 
@@ -13,6 +14,7 @@ use locked_turns::desk::Desk;
 use locked_turns::locked::Locked;
 use locked_turns::room::Room;
 use loglet_api::loglet::Loglet;
+use node_crew::faults::PhaseFaults;
 use node_crew::note::Note;
 use node_workers::back::Back;
 use node_workers::worker::Worker;
@@ -119,13 +121,15 @@ impl<'a, L: Loglet, R: Register, P: Rules, B: Room, W: Wait, S: Replica, C: Choo
         lines: &[NamedLine],
         from: usize,
         to: usize,
+        faults: &PhaseFaults,
         gate: &G,
     )
         requires run { MayRun P.law }
         requires range { (from ≤ to) × (to ≤ length lines.now) }
         requires sends { MaySendAll P.law.may lines.now }
-        requires may { MayWork P.law S.meaning lines.now from to (λ w. w.seat) (λ w. w.desks.items) self.old }
-        ensures { Worked P.law S.meaning lines.now from to (λ w. w.seat) (λ w. w.desks.items) self.old self.new }
+        requires phase { AreOfPhase faults.now.lines.now faults.now.phase faults.now.from faults.now.to }
+        requires may { MayWork P.law S.meaning lines.now faults.now.lines.now faults.now.phase from to (λ w. w.seat) (λ w. w.desks.items) self.old }
+        ensures { Worked P.law S.meaning lines.now faults.now.lines.now faults.now.phase from to (λ w. w.seat) (λ w. w.desks.items) self.old self.new }
     {
         let access = self.access.take().unwrap();
         let worker = self.worker.take().unwrap();
@@ -141,6 +145,7 @@ impl<'a, L: Loglet, R: Register, P: Rules, B: Room, W: Wait, S: Replica, C: Choo
             lines,
             from,
             to,
+            faults,
             gate,
         );
         self.sufficed = answer.is_ok();

@@ -2,16 +2,21 @@
 ghost use Rattle.std.specs.Prelude.{◌≡◌, ◌<◌, ◌≤◌, length};
 ghost use denote.Param.Send.{IsSend, IsSync};
 ghost use Rattle.node_lines.specs.Workers.{MayRun};
+ghost use Rattle.node_course.specs.FaultLines.{AreOfPhase, strays_from};
 ghost use Rattle.node_crew.specs.Turns.{MaySendAll};
 ghost use Rattle.node_threads.specs.Each.{Accepts, AcceptsAll, Changes, ChangesAll};
 ghost use Rattle.node_threads.specs.Posts.{AllMayWork, AllWorked, MayWork, Worked};
+ghost use Rattle.node_threads.specs.Stirring.{Stirred};
 
 use crate::post::Post;
+use crate::stirrer::Stirrer;
 use fate_words::chooser::Chooser;
 use gate_points::Gate;
 use legal_journal::rules::Rules;
+use locked_turns::locked::Locked;
 use locked_turns::room::Room;
 use loglet_api::loglet::Loglet;
+use node_crew::faults::PhaseFaults;
 use node_workers::worker::Worker;
 use register_api::Register;
 use replica_api::replica::Replica;
@@ -136,7 +141,59 @@ fn both_halves<R: Threads + Sync, T: Send, F: Fn(&mut T) + Sync>(
     thread::join_mut(rt, &mut front, &mut back);
 }
 
-/// All nodes work, those with lines side by side.
+/// Calls one closure at each element, as `beside` does, and meanwhile the other one in a thread of its own.
+fn at_once<R: Threads + Sync, T: Send, F: Fn(&mut T) + Sync, U: Send, G: Fn(&mut U) + Sync>(
+    rt: &R,
+    f: &F,
+    nodes: u32,
+    count: usize,
+    s: &mut [T],
+    g: &G,
+    other: &mut U,
+)
+    requires count { count ≡ length s.old }
+    requires accepts { AcceptsAll F.Fn f.now s.old }
+    requires other { Accepts G.Fn g.now other.old }
+    ensures each { ChangesAll F.Fn f.now s.old s.new }
+    ensures other { Changes G.Fn g.now other.old other.new }
+{
+    let mut front = ||
+        requires { IsSync R.row × IsSync F.row × IsSend T.row × (count ≡ length s.now) × AcceptsAll F.Fn f.now s.now }
+        ensures { ChangesAll F.Fn f.entry.now s.entry.now s.exit.now }
+    { beside(rt, f, nodes, 1, count, s) };
+    let mut back = ||
+        requires { Accepts G.Fn g.now other.now }
+        ensures { Changes G.Fn g.entry.now other.entry.now other.exit.now }
+    { at_one(g, other) };
+    thread::join_mut(rt, &mut front, &mut back);
+}
+
+/// Does so if the other one has any turns to make. If not, it isn't called.
+fn with_other<R: Threads + Sync, T: Send, F: Fn(&mut T) + Sync, U: Send, G: Fn(&mut U) + Sync>(
+    rt: &R,
+    f: &F,
+    nodes: u32,
+    count: usize,
+    s: &mut [T],
+    turns: u64,
+    g: &G,
+    other: &mut U,
+)
+    requires count { count ≡ length s.old }
+    requires accepts { AcceptsAll F.Fn f.now s.old }
+    requires other { Accepts G.Fn g.now other.old }
+    ensures each { ChangesAll F.Fn f.now s.old s.new }
+    ensures none { turns ≡ 0 → other.new ≡ other.old }
+    ensures other { 0 < turns → Changes G.Fn g.now other.old other.new }
+{
+    if turns == 0 {
+        beside(rt, f, nodes, 1, count, s);
+        return;
+    }
+    at_once(rt, f, nodes, count, s, g, other);
+}
+
+/// All nodes work, those with lines side by side, and the stirrer beside them, if there is something for it to do.
 pub(crate) fn run_all<
     'a,
     L: Loglet + Send,
@@ -153,21 +210,41 @@ pub(crate) fn run_all<
     lines: &[NamedLine],
     from: usize,
     to: usize,
+    faults: &PhaseFaults,
     gate: &G,
     posts: &mut Vec<Post<'a, L, R, P, B, W, Worker<S, C>>>,
+    stirrer: &mut Stirrer<Locked<'a, L, R, P, B, W>>,
 )
     requires run { MayRun P.law }
     requires range { (from ≤ to) × (to ≤ length lines.now) }
     requires sends { MaySendAll P.law.may lines.now }
-    requires may { AllMayWork P.law S.meaning lines.now from to (λ w. w.seat) (λ w. w.desks.items) posts.old.items }
-    ensures worked { AllWorked P.law S.meaning lines.now from to (λ w. w.seat) (λ w. w.desks.items) posts.old.items posts.new.items }
+    requires phase { AreOfPhase faults.now.lines.now faults.now.phase faults.now.from faults.now.to }
+    requires may { AllMayWork P.law S.meaning lines.now faults.now.lines.now faults.now.phase from to (λ w. w.seat) (λ w. w.desks.items) posts.old.items }
+    requires stirrer { (stirrer.old.access.who ≡ 0) × (0 < stirrer.old.cells) × (stirrer.old.cells ≡ length P.law.shelf) }
+    ensures worked { AllWorked P.law S.meaning lines.now faults.now.lines.now faults.now.phase from to (λ w. w.seat) (λ w. w.desks.items) posts.old.items posts.new.items }
     ensures size { length posts.new.items ≡ length posts.old.items }
+    ensures stirrer { stirrer.new.access.who ≡ 0 }
+    ensures stirred { Stirred (strays_from stirrer.old.cells 0 stirrer.old.turns) stirrer.old.access.seen stirrer.new.access.seen stirrer.new.sufficed }
 {
     let nodes = at_work(lines, from, to);
     let work = |post: &mut Post<L, R, P, B, W, Worker<S, C>>|
-        requires { MayRun P.law × (from ≤ to) × (to ≤ length lines.now) × MaySendAll P.law.may lines.now × MayWork P.law S.meaning lines.now from to (λ w. w.seat) (λ w. w.desks.items) post.now }
-        ensures { Worked P.law S.meaning lines.entry.now from to (λ w. w.seat) (λ w. w.desks.items) post.entry.now post.exit.now }
-    { post.run(alloc, lines, from, to, gate) };
+        requires { MayRun P.law × (from ≤ to) × (to ≤ length lines.now) × MaySendAll P.law.may lines.now × AreOfPhase faults.now.lines.now faults.now.phase faults.now.from faults.now.to × MayWork P.law S.meaning lines.now faults.now.lines.now faults.now.phase from to (λ w. w.seat) (λ w. w.desks.items) post.now }
+        ensures { Worked P.law S.meaning lines.entry.now faults.entry.now.lines.now faults.entry.now.phase from to (λ w. w.seat) (λ w. w.desks.items) post.entry.now post.exit.now }
+    { post.run(alloc, lines, from, to, faults, gate) };
+    let stir = |stirrer: &mut Stirrer<Locked<L, R, P, B, W>>|
+        requires { (stirrer.now.access.who ≡ 0) × (0 < stirrer.now.cells) × (stirrer.now.cells ≡ length P.law.shelf) }
+        ensures { (stirrer.exit.now.access.who ≡ 0) × Stirred (strays_from stirrer.entry.now.cells 0 stirrer.entry.now.turns) stirrer.entry.now.access.seen stirrer.exit.now.access.seen stirrer.exit.now.sufficed }
+    { stirrer.run() };
+    let turns = stirrer.turns;
     let count = posts.len();
-    beside(rt, &work, nodes, 1, count, posts.as_mut_slice());
+    with_other(
+        rt,
+        &work,
+        nodes,
+        count,
+        posts.as_mut_slice(),
+        turns,
+        &stir,
+        stirrer,
+    );
 }

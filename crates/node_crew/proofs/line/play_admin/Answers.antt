@@ -9,6 +9,8 @@ use Rattle.node_lines.specs.Reporting.{Reports}
 use Rattle.node_lines.specs.Leaving.{Leaves}
 use Rattle.node_lines.specs.Trimming.{TrimsLog}
 use Rattle.node_lines.specs.Workers.{WorkerOk, OwnWithin, OwnAdds, IsOfSessions, ReportAdds, LeaveAdds, TrimAdds, sent_by}
+use Rattle.base_engine.specs.Arming.{LeavesArming}
+use Rattle.node_lines.proofs.Arming.{extends_arms, reports_arms, leaves_arms, trims_arms}
 use Rattle.node_course.specs.Workers.{CanSend, LineWent}
 use Rattle.node_course.proofs.Extending.{line_extended}
 use Rattle.node_course.proofs.Reporting.{line_reported}
@@ -211,3 +213,39 @@ returns-in-Trim-clause-who g c = ap (λ x. x.seat.who) c.keep_look-in-Trim.ensur
 
 pub returns-in-Trim-clause-whose : goal.returns-in-Trim-clause-whose
 returns-in-Trim-clause-whose g c = ap (λ x. g.A.Access.who x) c.keep_look-in-Trim.ensures.access ∙ c.trim_line-looked.ensures.who
+
+pub returns-in-Extend-clause-arming : goal.returns-in-Extend-clause-arming
+returns-in-Extend-clause-arming g c =
+    let w = c.args.worker in
+    let q = c.extend_line-looked in
+    let k = c.keep_look in
+    on_ok k.result.answer k.ensures.notes (λ kept.
+    subst (λ x. LeavesArming 0 w.seat.node.replica x.seat.node.replica) (sym k.ensures.part)
+    (extends_arms _ (node_of w.seat (g.A.Access.seen c.args.access)) (node_of q.result.part.seat (g.A.Access.seen q.result.access)) kept.0 (in_ok _ kept.1 q.ensures.extends)))
+
+pub returns-in-Alive-clause-arming : goal.returns-in-Alive-clause-arming
+returns-in-Alive-clause-arming g c =
+    let w = c.args.worker in
+    let q = c.report_line-looked in
+    let k = c.keep_look-in-Alive in
+    on_ok k.result.answer k.ensures.notes (λ kept.
+    subst (λ x. LeavesArming 0 w.seat.node.replica x.seat.node.replica) (sym k.ensures.part)
+    (reports_arms _ (node_of w.seat (g.A.Access.seen c.args.access)) (node_of q.result.part.seat (g.A.Access.seen q.result.access)) kept.0 (in_ok _ kept.1 q.ensures.reports)))
+
+pub returns-in-Retire-clause-arming : goal.returns-in-Retire-clause-arming
+returns-in-Retire-clause-arming g c =
+    let w = c.args.worker in
+    let q = c.leave_line-looked in
+    let k = c.keep_look-in-Retire in
+    on_ok k.result.answer k.ensures.notes (λ kept.
+    subst (λ x. LeavesArming 0 w.seat.node.replica x.seat.node.replica) (sym k.ensures.part)
+    (leaves_arms _ (node_of w.seat (g.A.Access.seen c.args.access)) (node_of q.result.part.seat (g.A.Access.seen q.result.access)) kept.0 (in_ok _ kept.1 q.ensures.leaves)))
+
+pub returns-in-Trim-clause-arming : goal.returns-in-Trim-clause-arming
+returns-in-Trim-clause-arming g c =
+    let w = c.args.worker in
+    let q = c.trim_line-looked in
+    let k = c.keep_look-in-Trim in
+    on_ok k.result.answer k.ensures.notes (λ kept.
+    subst (λ x. LeavesArming 0 w.seat.node.replica x.seat.node.replica) (sym k.ensures.part)
+    (trims_arms _ (node_of w.seat (g.A.Access.seen c.args.access)) (node_of q.result.part.seat (g.A.Access.seen q.result.access)) kept.0 (in_ok _ kept.1 q.ensures.trims)))

@@ -6,6 +6,8 @@ use Rattle.turn_scopes.specs.Beside.{Since}
 use Rattle.turn_scopes.specs.Seats.{node_of}
 use Rattle.node_lines.specs.Lines.{Looks}
 use Rattle.node_lines.specs.Workers.{WorkerOk, OwnWithin, OwnAdds, Logs, IsOfSessions, sent_by}
+use Rattle.base_engine.specs.Arming.{LeavesArming}
+use Rattle.node_lines.proofs.Arming.{logs_arms, looks_arms}
 use Rattle.node_course.specs.Workers.{LineWent}
 use Rattle.node_course.proofs.Logging.{line_logged}
 use Rattle.node_course.proofs.Looking.{line_looked}
@@ -97,3 +99,21 @@ returns-in-Look-clause-who g c = ap (λ x. x.seat.who) c.keep_look.ensures.part 
 
 pub returns-in-Look-clause-whose : goal.returns-in-Look-clause-whose
 returns-in-Look-clause-whose g c = ap (λ x. g.A.Access.who x) c.keep_look.ensures.access ∙ c.look_line-looked.ensures.who
+
+pub returns-in-Logged-clause-arming : goal.returns-in-Logged-clause-arming
+returns-in-Logged-clause-arming g c =
+    let w = c.args.worker in
+    let q = c.log_line in
+    on_ok q.result.answer q.ensures.logs (λ logs.
+    logs_arms g.A.Law.Rules.law (node_of w.seat (g.A.Access.seen c.args.access)) (node_of q.result.part.seat (g.A.Access.seen q.result.access)) c.in-Logged.session.id w.desks.items q.result.part.desks.items logs)
+
+pub returns-in-Look-clause-arming : goal.returns-in-Look-clause-arming
+returns-in-Look-clause-arming g c =
+    let w = c.args.worker in
+    let q = c.look_line-looked in
+    let k = c.keep_look in
+    let s = c.in-Look.session in
+    let d = some_at w.desks.items s.id (omega (arith, c.number-number.ensures.range, c.number-number.ensures.value, c.requires.worker.size)) in
+    on_ok k.result.answer k.ensures.notes (λ kept.
+    subst (λ x. LeavesArming 0 w.seat.node.replica x.seat.node.replica) (sym k.ensures.part)
+    (looks_arms _ (node_of w.seat (g.A.Access.seen c.args.access)) (node_of q.result.part.seat (g.A.Access.seen q.result.access)) d.0 c.in-Look.query kept.0 (in_ok _ kept.1 q.ensures.looks d.0 d.1)))

@@ -4,10 +4,12 @@ use Rattle.std.proofs.lemmas.Option.{slice_get_read}
 use Rattle.script_text.specs.declared.asks.NamedLine.{NamedLine}
 use Rattle.turn_scopes.specs.Beside.{Since}
 use Rattle.turn_scopes.specs.Floors.{FloorIs}
-use Rattle.turn_scopes.specs.Seats.{SeatOk}
+use Rattle.turn_scopes.specs.Seats.{SeatView, SeatOk}
 use Rattle.turn_scopes.proofs.Beside.{since_none, since_both}
 use Rattle.node_lines.specs.Workers.{WorkerOk}
 use Rattle.node_workers.proofs.Ok.{on_ok}
+use Rattle.base_engine.proofs.Arming.{arming_refl}
+use Rattle.node_course.specs.FaultLines.{ArmedBy, AreFaultLines}
 use Rattle.node_course.specs.Workers.{LineWent, CanPlay, CanSend}
 use Rattle.node_course.proofs.Asking.{line_next}
 use Rattle.node_course.proofs.Lines.{at_get}
@@ -15,7 +17,9 @@ use Rattle.node_course.proofs.Turning.{can_play}
 use Rattle.node_crew.specs.Notes.{AreNotesOf, noted}
 use Rattle.node_crew.specs.Turns.{CanEnd, IsUnderWay}
 use Rattle.node_crew.proofs.Notes.{notes_more}
-use Rattle.node_crew.proofs.Playing.{worker_stands, none_went, under_way, then_went, passed_by, phase_is, can_begin, kept_by}
+use Rattle.node_crew.specs.Stops.{stops_between}
+use Rattle.node_crew.proofs.Playing.{worker_stands, none_went, under_way, then_went, passed_by, phase_is, part_number, can_begin, kept_by}
+use Rattle.node_crew.proofs.Stopping.{all_who, armed_join, armed_only, end_all, seat_all, stops_none, stops_of_phase, stops_split, went_all}
 use Rattle.node_crew.proofs.turn.play_lines.Goals.{then-eq+in-Ok, else-eq}
 use Rattle.node_crew.proofs.turn.play_lines.Goals as goal
 
@@ -26,22 +30,27 @@ loop-i-init g c =
     let a = c.args in
     let b = c.requires.playing.0 in
     let t = c.requires.playing.1 in
-    let there = at_get (λ (x : NamedLine). (1 ≤ x.node) × (x.node ≤ t.nodes)) a.lines.now t.one.at t.one.line t.now.lines_are.nodes_are t.one.is in
-    let can = can_begin p.law r.meaning a.lines.now t.home t.nodes t.course a.node a.from c.requires.run (subst (FloorIs p.law.floor) t.now.node.nodes_is c.requires.floor) (noted b a.notes.now.items) a.to (g.A.Access.seen a.access) a.worker.seat a.worker.desks.items t.one t.now in
+    let faults = a.faults.now.lines.now in
+    let are : AreFaultLines a.lines.now faults p.law.shelf t.nodes = subst (AreFaultLines a.lines.now faults p.law.shelf) t.now.node.nodes_is c.requires.faults in
+    let number = part_number p.law r.meaning a.lines.now t.home t.nodes t.course a.node a.from faults p.law.shelf are t.now.lines_are t.one in
+    let can = can_begin p.law r.meaning a.lines.now t.home t.nodes t.course a.node a.from faults p.law.shelf are c.requires.run (subst (FloorIs p.law.floor) t.now.node.nodes_is c.requires.floor) (noted b a.notes.now.items) (g.A.Access.seen a.access) a.worker.seat a.worker.desks.items t.one t.now in
     record {
       low = omega arith;
       high = c.requires.range.0;
+      begun = omega arith;
+      within = c.requires.of_phase.range.0;
       who = c.requires.node;
       whose = c.requires.who;
       since = since_none a.worker.seat.who (g.A.Access.beside a.worker.seat.who) (g.A.Access.seen a.access) (g.A.Access.seen a.access) refl;
+      armed = subst (λ xs. ArmedBy xs a.worker.seat.node.replica a.worker.seat.node.replica) (sym (stops_none a.node a.faults.now.from faults)) (arming_refl 0 a.worker.seat.node.replica);
       own = c.requires.own;
-      ends = inl (kept_by c.requires.floor (omega (arith, there.0, t.one.node, c.requires.node), omega (arith, there.1, t.one.node, c.requires.node, t.now.node.nodes_is))
+      ends = inl (kept_by c.requires.floor (omega (arith, number.0, c.requires.node), omega (arith, number.1, c.requires.node, t.now.node.nodes_is))
           (subst (λ k. CanPlay k (g.A.Access.seen a.access) a.worker.seat) (sym c.requires.node) can));
       goes = λ home nodes course base u ends. none_went p.law r.meaning a.lines.now home nodes course a.node a.from (noted base a.notes.now.items) (g.A.Access.seen a.access) a.worker.seat a.worker.desks.items u;
     }
 
-pub play_line-played-requires-clause-worker : goal.play_line-played-requires-clause-worker
-play_line-played-requires-clause-worker g c =
+pub play_own-played-requires-clause-worker : goal.play_own-played-requires-clause-worker
+play_own-played-requires-clause-worker g c =
     let p = g.A.Law.Rules in
     let r = g.S.Replica in
     let a = c.args in
@@ -52,11 +61,11 @@ play_line-played-requires-clause-worker g c =
     subst (λ k. WorkerOk p.law r.meaning k (g.A.Access.seen l.access) l.worker.seat l.worker.desks.items) (sym l.invariant.who)
     (subst (λ j. WorkerOk p.law r.meaning a.node j l.worker.seat l.worker.desks.items) w.seen_is w.node.ok)
 
-pub play_line-played-requires-clause-who : goal.play_line-played-requires-clause-who
-play_line-played-requires-clause-who g c = c.loop-i.invariant.who ∙ sym c.loop-i.invariant.whose
+pub play_own-played-requires-clause-who : goal.play_own-played-requires-clause-who
+play_own-played-requires-clause-who g c = c.loop-i.invariant.who ∙ sym c.loop-i.invariant.whose
 
-pub play_line-played-requires-clause-next : goal.play_line-played-requires-clause-next
-play_line-played-requires-clause-next g c =
+pub play_own-played-requires-clause-next : goal.play_own-played-requires-clause-next
+play_own-played-requires-clause-next g c =
     let p = g.A.Law.Rules in
     let r = g.S.Replica in
     let a = c.args in
@@ -69,8 +78,8 @@ play_line-played-requires-clause-next g c =
     let own = eqb-true line.node a.node (sym c.eq.ensures ∙ c.if-eq.true) in
     line_next p.law r.meaning a.lines.now t.home t.nodes w.course (noted b l.notes.items) a.node a.from l.i w.course.phase line l.worker.seat l.worker.desks.items t.now.lines_are at own w.node
 
-pub play_line-played-requires-clause-can : goal.play_line-played-requires-clause-can
-play_line-played-requires-clause-can g c =
+pub play_own-played-requires-clause-can : goal.play_own-played-requires-clause-can
+play_own-played-requires-clause-can g c =
     let p = g.A.Law.Rules in
     let r = g.S.Replica in
     let a = c.args in
@@ -86,8 +95,8 @@ play_line-played-requires-clause-can g c =
     (subst (λ j. CanPlay a.node j l.worker.seat) w.seen_is
     (can_play p.law r.meaning c.requires.run a.lines.now t.home t.nodes w.course (noted b l.notes.items) a.node a.from l.i w.course.phase l.worker.seat l.worker.desks.items floor w.node t.now.lines_are line at own))
 
-pub play_line-played-requires-clause-number : goal.play_line-played-requires-clause-number
-play_line-played-requires-clause-number g c =
+pub play_own-played-requires-clause-number : goal.play_own-played-requires-clause-number
+play_own-played-requires-clause-number g c =
     let p = g.A.Law.Rules in
     let r = g.S.Replica in
     let a = c.args in
@@ -102,8 +111,8 @@ play_line-played-requires-clause-number g c =
     let own' = own ∙ sym l.invariant.who in
     (omega (arith, there.0, own'), omega (arith, there.1, own', w.node.nodes_is))
 
-pub play_line-played-requires-clause-floor : goal.play_line-played-requires-clause-floor
-play_line-played-requires-clause-floor g c =
+pub play_own-played-requires-clause-floor : goal.play_own-played-requires-clause-floor
+play_own-played-requires-clause-floor g c =
     let p = g.A.Law.Rules in
     let r = g.S.Replica in
     let a = c.args in
@@ -113,13 +122,13 @@ play_line-played-requires-clause-floor g c =
     let w = l.invariant.goes t.home t.nodes t.course b t.now t.ends in
     subst (FloorIs p.law.floor) (t.now.node.nodes_is ∙ sym w.node.nodes_is) c.requires.floor
 
-pub play_line-played-requires-clause-node : goal.play_line-played-requires-clause-node
-play_line-played-requires-clause-node g c =
+pub play_own-played-requires-clause-node : goal.play_own-played-requires-clause-node
+play_own-played-requires-clause-node g c =
     let l = c.loop-i in
     eqb-true c.index-lines-i.result.node c.args.node (sym c.eq.ensures ∙ c.if-eq.true) ∙ sym l.invariant.who
 
-pub play_line-played-requires-clause-sends : goal.play_line-played-requires-clause-sends
-play_line-played-requires-clause-sends g c =
+pub play_own-played-requires-clause-sends : goal.play_own-played-requires-clause-sends
+play_own-played-requires-clause-sends g c =
     let a = c.args in
     let l = c.loop-i in
     let line = c.index-lines-i.result in
@@ -140,13 +149,21 @@ loop-i-preserved g c =
     let mid = g.A.Access.seen l.access in
     elim c.if-eq.branch [
       | then-eq+in-Ok b ↦
-          let q = b.play_line-played in
+          let q = b.play_own-played in
           let own = eqb-true line.node a.node (sym c.eq.ensures ∙ b.if-eq.true) in
           let new = g.A.Access.seen q.result.access in
           let same = l.invariant.who ∙ sym c.requires.node in
           record {
             low = omega (arith, l.invariant.low);
             high = omega (arith, c.loop-i-test.true);
+            begun = omega (arith, b.next-is, q.ensures.range.0, l.invariant.begun);
+            within = omega (arith, b.next-is, q.ensures.range.1);
+            armed = subst (λ k. ArmedBy (stops_between a.node a.faults.now.from k a.faults.now.lines.now) a.worker.seat.node.replica c.if-eq.worker.seat.node.replica) (sym b.next-is)
+                (subst (λ x. ArmedBy (stops_between a.node a.faults.now.from q.new.next a.faults.now.lines.now) a.worker.seat.node.replica x.seat.node.replica) (sym b.worker-is)
+                (subst (λ xs. ArmedBy xs a.worker.seat.node.replica q.result.part.seat.node.replica)
+                (sym (stops_split a.node a.faults.now.from l.next q.new.next a.faults.now.lines.now l.invariant.begun q.ensures.range.0))
+                (armed_join (stops_between a.node a.faults.now.from l.next a.faults.now.lines.now) (stops_between a.node l.next q.new.next a.faults.now.lines.now) a.worker.seat.node.replica l.worker.seat.node.replica q.result.part.seat.node.replica l.invariant.armed
+                (subst (λ k. ArmedBy (stops_between k l.next q.new.next a.faults.now.lines.now) l.worker.seat.node.replica q.result.part.seat.node.replica) l.invariant.who (on_ok _ b.in-Ok.is q.ensures.armed)))));
             who = ap (λ w. w.seat.who) b.worker-is ∙ (q.ensures.who ∙ l.invariant.who);
             whose = ap (λ x. g.A.Access.who x) b.access-is ∙ (q.ensures.whose ∙ l.invariant.whose);
             since = subst (λ x. Since me (g.A.Access.beside me) first (g.A.Access.seen x)) (sym b.access-is)
@@ -172,6 +189,10 @@ loop-i-preserved g c =
           record {
             low = omega (arith, l.invariant.low);
             high = omega (arith, c.loop-i-test.true);
+            begun = omega (arith, b.next-is, l.invariant.begun);
+            within = omega (arith, b.next-is, l.invariant.within);
+            armed = subst (λ k. ArmedBy (stops_between a.node a.faults.now.from k a.faults.now.lines.now) a.worker.seat.node.replica c.if-eq.worker.seat.node.replica) (sym b.next-is)
+                (subst (λ x. ArmedBy (stops_between a.node a.faults.now.from l.next a.faults.now.lines.now) a.worker.seat.node.replica x.seat.node.replica) (sym b.worker-is) l.invariant.armed);
             who = ap (λ w. w.seat.who) b.worker-is ∙ l.invariant.who;
             whose = ap (λ x. g.A.Access.who x) b.access-is ∙ l.invariant.whose;
             since = subst (λ x. Since me (g.A.Access.beside me) first (g.A.Access.seen x)) (sym b.access-is) l.invariant.since;
@@ -194,8 +215,35 @@ returns-clause-goes g c = λ home nodes course base u ends.
     let a = c.args in
     let l = c.loop-i in
     let over : l.i ≡ a.to = omega (arith, l.invariant.high, c.loop-i-test.false) in
-    subst (λ k. LineWent p.law r.meaning a.lines.now home nodes course (noted base l.notes.items) a.node a.from k (g.A.Access.seen l.access) l.worker.seat l.worker.desks.items) over
-    (l.invariant.goes home nodes course base u ends)
+    let seen = g.A.Access.seen l.access in
+    let looks = noted base l.notes.items in
+    let xs = stops_between a.node l.next a.faults.now.to a.faults.now.lines.now in
+    subst (λ (x : SeatView). LineWent p.law r.meaning a.lines.now home nodes course looks a.node a.from a.to seen x l.worker.desks.items) (sym c.arm_between.ensures)
+    (went_all p.law r.meaning a.lines.now home nodes course looks a.node a.from a.to seen l.worker.seat l.worker.desks.items xs
+    (subst (λ k. LineWent p.law r.meaning a.lines.now home nodes course looks a.node a.from k seen l.worker.seat l.worker.desks.items) over
+    (l.invariant.goes home nodes course base u ends)))
+
+pub returns-clause-armed : goal.returns-clause-armed
+returns-clause-armed g c =
+    let a = c.args in
+    let l = c.loop-i in
+    let fs = a.faults.now.lines.now in
+    let t = c.arm_between.new.seat in
+    let xs = stops_between a.node l.next a.faults.now.to fs in
+    let first = a.worker.seat.node.replica in
+    subst (λ ys. ArmedBy ys first t.node.replica) (sym (stops_of_phase a.node a.faults.now.phase a.faults.now.from a.faults.now.to fs c.requires.of_phase))
+    (subst (λ ys. ArmedBy ys first t.node.replica) (sym (stops_split a.node a.faults.now.from l.next a.faults.now.to fs l.invariant.begun l.invariant.within))
+    (armed_join (stops_between a.node a.faults.now.from l.next fs) xs first l.worker.seat.node.replica t.node.replica l.invariant.armed
+    (subst (λ (x : SeatView). ArmedBy xs l.worker.seat.node.replica x.node.replica) (sym c.arm_between.ensures) (armed_only l.worker.seat xs))))
+
+pub returns-clause-ends : goal.returns-clause-ends
+returns-clause-ends g c =
+    let p = g.A.Law.Rules in
+    let a = c.args in
+    let l = c.loop-i in
+    let xs = stops_between a.node l.next a.faults.now.to a.faults.now.lines.now in
+    subst (λ (x : SeatView). CanEnd g.A.Access.beside p.law.floor (g.A.Access.seen l.access) x l.worker.desks.items) (sym c.arm_between.ensures)
+    (end_all g.A.Access.beside p.law.floor (g.A.Access.seen l.access) l.worker.seat l.worker.desks.items xs l.invariant.ends)
 
 pub returns-clause-stands : goal.returns-clause-stands
 returns-clause-stands g c =
@@ -206,13 +254,23 @@ returns-clause-stands g c =
     let b = c.requires.playing.0 in
     let t = c.requires.playing.1 in
     let w = l.invariant.goes t.home t.nodes t.course b t.now t.ends in
-    subst (λ j. SeatOk p.law r.meaning j l.worker.seat) w.seen_is
-    (worker_stands p.law r.meaning c.args.node w.course.seen l.worker.seat l.worker.desks.items w.node.ok)
+    let seen = g.A.Access.seen l.access in
+    let xs = stops_between a.node l.next a.faults.now.to a.faults.now.lines.now in
+    subst (λ (x : SeatView). SeatOk p.law r.meaning seen x) (sym c.arm_between.ensures)
+    (seat_all p.law r.meaning seen l.worker.seat xs
+    (subst (λ j. SeatOk p.law r.meaning j l.worker.seat) w.seen_is
+    (worker_stands p.law r.meaning c.args.node w.course.seen l.worker.seat l.worker.desks.items w.node.ok)))
+
+pub returns-clause-who : goal.returns-clause-who
+returns-clause-who g c =
+    let a = c.args in
+    let l = c.loop-i in
+    ap (λ (x : SeatView). x.who) c.arm_between.ensures ∙ (all_who l.worker.seat (stops_between a.node l.next a.faults.now.to a.faults.now.lines.now) ∙ (l.invariant.who ∙ sym c.requires.node))
 
 pub returns-in-Err-clause-since : goal.returns-in-Err-clause-since
 returns-in-Err-clause-since g c =
     let l = c.loop-i in
-    let q = c.play_line-played in
+    let q = c.play_own-played in
     let me = c.args.worker.seat.who in
     let same = l.invariant.who ∙ sym c.requires.node in
     since_both me (g.A.Access.beside me) (g.A.Access.seen c.args.access) (g.A.Access.seen l.access) (g.A.Access.seen q.result.access) l.invariant.since
@@ -225,4 +283,4 @@ returns-in-Err-clause-own g c =
     let line = c.index-lines-i.result in
     let at = slice_get_read a.lines.now (length a.lines.now) l.i line refl (omega (arith, c.loop-i-test.true, c.requires.range.1)) c.index-lines-i.is in
     let own = eqb-true line.node a.node (sym c.eq.ensures ∙ c.if-eq.true) in
-    notes_more a.lines.now a.node l.i line l.notes.items c.play_line-played.new.notes.items at own c.play_line-played.ensures.notes l.invariant.own
+    notes_more a.lines.now a.node l.i line l.notes.items c.play_own-played.new.notes.items at own c.play_own-played.ensures.notes l.invariant.own

@@ -8,7 +8,10 @@ use Rattle.node_lines.specs.Workers.{WorkerOk, OwnWithin, OwnAdds, IsOfSessions,
 use Rattle.node_course.specs.Script.{BeginsAt}
 use Rattle.node_course.specs.Workers.{Rests}
 use Rattle.node_course.proofs.Ending.{phase_ended}
+use Rattle.node_course.specs.FaultLines.{stops_in}
 use Rattle.node_course.proofs.Joining.{goes_both}
+use Rattle.node_lines.proofs.Arming.{ends_arms}
+use Rattle.node_crew.proofs.Stopping.{armed_then}
 use Rattle.node_crew.specs.Notes.{noted}
 use Rattle.node_crew.proofs.Playing.{left_still}
 use Rattle.node_workers.proofs.Ok.{in_ok, on_ok}
@@ -80,3 +83,13 @@ returns-in-Err-answer-clause-since g c =
     let me = c.args.worker.seat.who in
     since_both me (g.A.Access.beside me) (g.A.Access.seen c.args.access) (g.A.Access.seen q.result.access) (g.A.Access.seen e.result.access) q.ensures.since
     (subst (λ k. Since k (g.A.Access.beside k) (g.A.Access.seen q.result.access) (g.A.Access.seen e.result.access)) q.ensures.who e.ensures.left.since)
+
+pub returns-in-Ok-answer-clause-armed : goal.returns-in-Ok-answer-clause-armed
+returns-in-Ok-answer-clause-armed g c =
+    let a = c.args in
+    let q = c.play_lines-worker in
+    let e = c.end_phase-worker in
+    let seat = q.result.part.seat in
+    let seat' = e.result.part.seat in
+    armed_then (stops_in a.node a.faults.now.phase a.faults.now.lines.now) a.worker.seat.node.replica seat.node.replica seat'.node.replica (on_ok _ c.in-Ok.is q.ensures.armed)
+    (ends_arms _ (node_of seat (g.A.Access.seen q.result.access)) (node_of seat' (g.A.Access.seen e.result.access)) q.result.part.desks.items e.result.part.desks.items c.in-Ok-answer._failed (in_ok _ c.in-Ok-answer.is e.ensures.ends))

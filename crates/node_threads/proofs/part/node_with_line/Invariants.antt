@@ -1,6 +1,6 @@
 use Rattle.std.proofs.Common.{◌≤◌}
 use Rattle.node_crew.specs.Turns.{HasNone}
-use Rattle.node_threads.proofs.part.node_at_work.Given as goal
+use Rattle.node_threads.proofs.part.node_with_line.Given as goal
 
 abbrev pub invariant-loop-i : goal.invariant-loop-i
 invariant-loop-i l = record {
