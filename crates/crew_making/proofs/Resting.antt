@@ -11,6 +11,7 @@ use Rattle.engine_steps.specs.declared.layout.Kept.{Kept}
 use Rattle.base_engine.specs.Settling.{OutboxView, cause_in}
 use Rattle.replica_api.specs.Replica.{Meaning}
 use Rattle.script_text.specs.declared.asks.NamedLine.{NamedLine}
+use Rattle.script_text.specs.declared.faults.FaultLine.{FaultLine}
 use Rattle.turn_scopes.specs.Seats.{SeatView, node_of}
 use Rattle.node_lines.specs.declared.desk.Desk.{Desk}
 use Rattle.node_lines.specs.UnderWay.{IsGiven, ranks_in}
@@ -81,7 +82,7 @@ no_moment (suc p) = refl
 
 -- A node, and the run
 
-module _ (law : Law) (lines : List NamedLine) (looks : List (Option Looked)) (size : length looks ≡ length lines) (none : AllByRecursion (λ look. look ≡ None) looks) (meaning : Meaning) where
+module _ (law : Law) (lines : List NamedLine) (faults : List FaultLine) (looks : List (Option Looked)) (size : length looks ≡ length lines) (none : AllByRecursion (λ look. look ≡ None) looks) (meaning : Meaning) where
   module _ (nodes n : ℕ) (seat : SeatView) (desks : List Desk) (w : IsNewWorker (record law { may = Sends n law.may [] [] }) meaning nodes n seat desks) where
     kept : seat.node.replica.kept ≡ []
     kept = w.waits.replica.fresh.nothing_waits
@@ -115,7 +116,7 @@ module _ (law : Law) (lines : List NamedLine) (looks : List (Option Looked)) (si
     worker_rests home = node_opens law meaning lines home nodes looks n seat desks size none w.waits.nodes_is has_not_begun worker_ok
 
   pub crew_rests : {A : Type 0} (home : ℕ → ℕ) (seat : A → SeatView) (desks : A → List Desk) (workers : List A) → AreLines lines home (length workers)
-      → AreNewWorkers (λ n. record law { may = Sends n law.may [] [] }) meaning (length workers) seat desks workers → CrewRests law meaning lines 0 0 [] looks seat desks workers
+      → AreNewWorkers (λ n. record law { may = Sends n law.may [] [] }) meaning (length workers) seat desks workers → CrewRests law meaning lines faults 0 0 [] looks seat desks workers
   crew_rests home seat desks workers are new = record {
     home = home;
     courses = λ n. first_course;
@@ -124,8 +125,8 @@ module _ (law : Law) (lines : List NamedLine) (looks : List (Option Looked)) (si
     ends = record { before = λ i l at low. absurd (omega (arith, low)); behind = λ i l at high. omega arith };
     long = refl;
     made = λ i l at low.
-        subst (λ j. AreAtWork lines l.phase j (get_or ([] ∷ []) (l.phase + 1) [])) (sym (no_moment l.phase))
-        (subst (AreAtWork lines l.phase []) (sym (no_moment (l.phase + 1))) (at_work_none lines l.phase []));
+        subst (λ j. AreAtWork lines faults l.phase j (get_or ([] ∷ []) (l.phase + 1) [])) (sym (no_moment l.phase))
+        (subst (AreAtWork lines faults l.phase []) (sym (no_moment (l.phase + 1))) (at_work_none lines faults l.phase []));
     seals = λ e has is. absurd (none_in e has);
     behind = λ e p has among. absurd (none_in e has);
     seen = λ n least most. record { phase_is = refl; begins_are = refl; seen_is = refl };

@@ -25,6 +25,7 @@ use register_api::Register;
 use replica_api::node::OpenNode;
 use replica_api::replica::Replica;
 use script_text::asks::NamedLine;
+use script_text::faults::FaultLine;
 use std::alloc::{AllocError, Global};
 use std::marker::Brand;
 use turn_scopes::seat::Seat;
@@ -102,6 +103,7 @@ pub fn make_crew<L: Loglet, R: Register, K: Terms, S: Replica, C: Chooser>(
     register: R,
     nodes: &mut Vec<OpenNode<S, C>>,
     lines: &[NamedLine],
+    _faults: &[FaultLine],
 ) -> Result<Crew<L, R, K, S, C>, Parts<L, R>>
     requires least { 0 < length cells.items }
     requires most { length cells.items ≤ 64 }
@@ -113,7 +115,7 @@ pub fn make_crew<L: Loglet, R: Register, K: Terms, S: Replica, C: Chooser>(
     requires eight { length nodes.old.items ≤ 8 }
     requires nodes { (j : ℕ) (n : OpenNode S C) → slice_get nodes.old.items j ≡ Some n → IsNewReplica S.meaning (j + 1) (S.shows n.replica) }
     requires lines { (home : ℕ → ℕ) × AreLines lines.now home (length nodes.old.items) }
-    ensures rests { IfOk result (λ crew. CrewRests K.law S.meaning lines.now 0 0 crew.fabric.journal crew.looks.items (λ w. w.seat) (λ w. w.desks.items) crew.workers.items) }
+    ensures rests { IfOk result (λ crew. CrewRests K.law S.meaning lines.now _faults.now 0 0 crew.fabric.journal crew.looks.items (λ w. w.seat) (λ w. w.desks.items) crew.workers.items) }
     ensures stands { IfOk result (λ crew. CrewStands K.law S.meaning crew.fabric.journal (λ w. w.seat) crew.workers.items) }
     ensures none { IfOk result (λ crew. crew.fabric.journal ≡ []) }
     ensures told { IfOk result (λ crew. AreAsTold K.law [] crew.fabric.cells crew.fabric.register) }

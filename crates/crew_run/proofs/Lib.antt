@@ -1,3 +1,4 @@
+pub mod Arming
 pub mod Registering
 pub mod Telling
 pub mod Seeing

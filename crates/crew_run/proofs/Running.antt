@@ -21,6 +21,7 @@ use Rattle.legal_journal.proofs.Legal.{sound}
 use Rattle.engine_api.specs.Packing.{packed, session_item, alive_item, leave_item, trim_item}
 use Rattle.replica_api.specs.Replica.{ReplicaView}
 use Rattle.script_text.specs.declared.asks.NamedLine.{NamedLine}
+use Rattle.script_text.specs.declared.faults.FaultLine.{FaultLine}
 use Rattle.script_text.specs.declared.asks.Asks.{Asks}
 use Rattle.script_text.specs.declared.asks.Asks.TheVariants as asks
 use Rattle.script_text.specs.declared.line.Admin.TheVariants.{Extend, Alive, Retire, Trim}
@@ -40,6 +41,7 @@ use Rattle.node_lines.specs.declared.desk.Desk.{Desk}
 use Rattle.node_lines.specs.Workers.{IsHome}
 use Rattle.run_ends.specs.Closing.{WorkerEnd, IsGivenBack}
 use Rattle.crew_making.specs.Apart.{AreAsTold}
+use Rattle.crew_run.specs.Acting.{HasActed, WasActedOn}
 use Rattle.crew_run.specs.Telling.{FitsGivenBack}
 use Rattle.crew_run.specs.Running.{RunTold}
 
@@ -125,11 +127,11 @@ pub if_ok : {A E : Type 0} (P Q : A → Type 0) → ((x : A) → P x → Q x) �
 if_ok P Q h (Ok x) k = h x k
 if_ok P Q h (Err e) k = tt
 
-pub run_told : {A B : Type 0} (law : Law) (lines : List NamedLine) (journal : List Event) (seat : B → SeatView) (desks : B → List Desk) (shows : A → ReplicaView) (nodes : List A) (workers : List B) (cells : List LogletView) (register : RegisterView) (o : Told)
+pub run_told : {A B : Type 0} (law : Law) (lines : List NamedLine) (faults : List FaultLine) (journal : List Event) (seat : B → SeatView) (desks : B → List Desk) (shows : A → ReplicaView) (nodes : List A) (workers : List B) (cells : List LogletView) (register : RegisterView) (o : Told)
     → AreAsTold law journal cells register → map shows nodes ≡ map (λ w. (seat w).node.replica) workers
-    → FitsGivenBack law lines journal (map (λ w. record { seat = seat w; desks = desks w }) workers) o
-    → RunTold lines (record { cells = cells; register = register; disks = map (λ n. (shows n).faults) nodes }) o
-run_told {A} {B} law lines journal seat desks shows nodes workers cells register o told same h =
+    → FitsGivenBack law lines faults journal (map (λ w. record { seat = seat w; desks = desks w }) workers) o
+    → RunTold lines faults (record { cells = cells; register = register; disks = map (λ n. (shows n).faults) nodes }) o
+run_told {A} {B} law lines faults journal seat desks shows nodes workers cells register o told same h =
     let mk : B → WorkerEnd = λ w. record { seat = seat w; desks = desks w } in
     let yard : Shown = record { cells = cells; register = register; disks = map (λ n. (shows n).faults) nodes } in
     let size : length law.shelf ≡ length cells = sym (ap length told.shelf_is) ∙ length-map cells (λ (v : LogletView). v.servers) in
@@ -162,6 +164,12 @@ run_told {A} {B} law lines journal seat desks shows nodes workers cells register
         let there = disks_counted shows (λ w. (seat w).node.replica) nodes workers j w same at in
         let faults = ap (λ (x : WorkerEnd). x.seat.node.replica.faults) one in
         omega (arith, there, faults)
+
+-- what number 0 did, of the loglets that come back
+pub was_acted_on : (law : Law) (faults : List FaultLine) (journal : List Event) (cells : List LogletView) (register : RegisterView) → AreAsTold law journal cells register → HasActed (length law.shelf) faults journal → WasActedOn law faults cells register
+was_acted_on law faults journal cells register told h =
+    let size : length law.shelf ≡ length cells = sym (ap length told.shelf_is) ∙ length-map cells (λ (v : LogletView). v.servers) in
+    record { journal = journal; told = told; acts = subst (λ n. HasActed n faults journal) size h }
 
 -- a number below the next one is below this one, or is it
 pub below_next : (k i : ℕ) → k < i + 1 → (k < i) ⊎ (k ≡ i)

@@ -28,9 +28,9 @@ use Rattle.fitting_run.specs.Yard.{Shown}
 use Rattle.fitting_run.specs.Calm.{IsCalm}
 use Rattle.fitting_run.specs.Faults.{faults_of}
 use Rattle.run_laws.proofs.Members.{Among, contains-among}
+use Rattle.node_course.specs.FaultLines.{AreOutside}
 use Rattle.node_course.proofs.Lines.{count-cons}
 use Rattle.run_ends.specs.Closing.{WorkerEnd, IsGivenBack}
-use Rattle.run_ends.specs.Reads.{AreReads}
 use Rattle.run_ends.proofs.Counting.{AreCounted}
 use Rattle.run_ends.proofs.Reading.{reads_keep}
 use Rattle.run_closing.specs.Finishing.{SeesAll}
@@ -162,7 +162,7 @@ module _ (law : Law) (told : AreCounted law) where
     disk_calm j w at = let few = back.disks j w at in let low = disk_below yard.disks (j + 1 - 1) in omega (arith, few, low, calm)
 
   pub seen_all : ((seen : List Event) (log : List Entry) → IsLegal law seen → IsFront Holds seen log → length log ≤ tail_of (state_of seen)) → (journal more : List Event) (workers : List WorkerEnd) (log : List Entry) (chain : Chain) (yard : Shown) → SeesAll journal (λ (w : WorkerEnd). w.seat) workers (length log) → IsFront Holds journal log
-      → AreReads more → IsGivenBack law (journal ++ more) workers chain yard → IsCalm yard → length log ≡ virtual_tail chain yard.cells
+      → AreOutside more → IsGivenBack law (journal ++ more) workers chain yard → IsCalm yard → length log ≡ virtual_tail chain yard.cells
   seen_all within journal more workers log chain yard sees front reads back calm =
       let legal = legal_front law journal more back.legal in
       let parts = IsLegalFrom-split law start journal more back.legal.steps in

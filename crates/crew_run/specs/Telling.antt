@@ -6,6 +6,7 @@ use Rattle.legal_journal.specs.Journal.{state_of}
 use Rattle.fabric_core.specs.Fabric.{IsRegisterAsTold}
 use Rattle.fabric_core.specs.Log.{virtual_tail}
 use Rattle.script_text.specs.declared.asks.NamedLine.{NamedLine}
+use Rattle.script_text.specs.declared.faults.FaultLine.{FaultLine}
 use Rattle.fitting_run.specs.declared.told.Told.{Told}
 use Rattle.fitting_run.specs.Yard.{Shown}
 use Rattle.fitting_run.specs.Fits.{Fits}
@@ -23,11 +24,11 @@ pub record GoesByRows (chain : Chain) (rows : List Row) : Type 0 where
   pub most : last_id chain ≤ count_by (λ r. is_some (version_told r.outcome)) rows
   pub segments : chain.trim ≡ 0 → length chain.segments ≡ last_id chain + 1
 
--- It tells the chain that the journal knows; it fits the lines and that yard. Where no fault was counted there, each line has
+-- It tells the chain that the journal knows; it fits the lines, the fault lines and that yard. Where no fault was counted there, each line has
 -- its own answer, the run has seen the whole log, and the chain goes by what rows tell.
-pub record FitsGivenBack (law : Law) (lines : List NamedLine) (journal : List Event) (workers : List WorkerEnd) (o : Told) : Type 0 where
+pub record FitsGivenBack (law : Law) (lines : List NamedLine) (faults : List FaultLine) (journal : List Event) (workers : List WorkerEnd) (o : Told) : Type 0 where
   pub chain : o.chain ≡ (state_of journal).register.chain
-  pub fits : (yard : Shown) → IsGivenBack law journal workers o.chain yard → IsRegisterAsTold (state_of journal).register yard.register → Fits lines o yard
+  pub fits : (yard : Shown) → IsGivenBack law journal workers o.chain yard → IsRegisterAsTold (state_of journal).register yard.register → Fits lines faults o yard
   pub calm : (yard : Shown) → IsGivenBack law journal workers o.chain yard → IsRegisterAsTold (state_of journal).register yard.register → IsCalm yard → all_answered o.rows ≡ true
   pub whole : (yard : Shown) → IsGivenBack law journal workers o.chain yard → IsRegisterAsTold (state_of journal).register yard.register → IsCalm yard → o.end ≡ virtual_tail o.chain yard.cells
   pub extended : (yard : Shown) → IsGivenBack law journal workers o.chain yard → IsCalm yard → GoesByRows o.chain o.rows

@@ -15,8 +15,8 @@ ghost use Rattle.fitting_run.specs.declared.told.Told.{Told};
 ghost use Rattle.fitting_run.specs.Fits.{ChainIsRegistered};
 ghost use Rattle.fitting_run.specs.Yard.{Shown};
 ghost use Rattle.fitting_run.specs.Calm.{IsCalm};
+ghost use Rattle.node_course.specs.FaultLines.{AreOutside};
 ghost use Rattle.run_ends.specs.Closing.{WorkerEnd, IsGivenBack};
-ghost use Rattle.run_ends.specs.Reads.{AreReads};
 ghost use Rattle.run_closing.specs.Finishing.{SeesAll};
 ghost use Rattle.last_chain.specs.declared.last.LastChain.{LastChain};
 ghost use Rattle.last_chain.specs.Last.{IsLast, AsksOnce};
@@ -48,11 +48,11 @@ pub fn a_calm_journal_tells_no_fault<P: Rules>()
     a_fault_names_a_cell::<P>();
 }
 
-/// Where no fault was counted in the yard that comes back, what was played as the nodes closed is the whole log, and a read of the
-/// chain since lets it end there still.
+/// Where no fault was counted in the yard that comes back, what was played as the nodes closed is the whole log, and events of no node
+/// since let it end there still.
 pub fn a_calm_run_has_seen_all<P: Rules>()
     ensures { ((log : List Entry) (n : ℕ) → P.law.floor log n → n ≤ length log) → (journal more : List Event) (workers : List WorkerEnd) (log : List Entry) (chain : Chain) (yard : Shown)
-        → SeesAll journal (λ (w : WorkerEnd). w.seat) workers (length log) → IsFront Holds journal log → AreReads more
+        → SeesAll journal (λ (w : WorkerEnd). w.seat) workers (length log) → IsFront Holds journal log → AreOutside more
         → IsGivenBack P.law (journal ++ more) workers chain yard → IsCalm yard → length log ≡ virtual_tail chain yard.cells }
 {
     lacks_are_counted();

@@ -8,10 +8,13 @@ ghost use Rattle.register_api.specs.View as view;
 ghost use Rattle.turn_scopes.specs.Floors.{FloorIs};
 ghost use Rattle.fitting_run.specs.Lines.{CanLog};
 ghost use Rattle.node_lines.specs.Workers.{MayRun};
-ghost use Rattle.run_ends.specs.Rules.{may_of};
+ghost use Rattle.run_ends.specs.Rules.{law_of, may_of};
+ghost use Rattle.node_course.specs.FaultLines.{AreFaultLines};
 ghost use Rattle.node_course.specs.Script.{AreLines};
+ghost use Rattle.node_crew.specs.Arming.{ArmedByStops};
 ghost use Rattle.node_crew.specs.Turns.{MaySendAll};
 ghost use Rattle.crew_making.specs.Fresh.{IsNewReplica};
+ghost use Rattle.crew_run.specs.Acting.{WasActedOn};
 ghost use Rattle.crew_run.specs.Running.{RunTold};
 
 use crate::tell::tell;
@@ -31,6 +34,7 @@ use run_ends::line_rules::{
     the_floor_is, trims_are_sent,
 };
 use script_text::asks::NamedLine;
+use script_text::faults::FaultLine;
 use std::alloc::{AllocError, Global};
 use std::marker::Brand;
 use std::sync::Wait;
@@ -61,6 +65,7 @@ fn run_by<
     register: R,
     nodes: Vec<OpenNode<S, C>>,
     lines: &[NamedLine],
+    faults: &[FaultLine],
     gate: &G,
 ) -> Ran<L, R, S, C>
     requires run { MayRun K.law }
@@ -77,15 +82,18 @@ fn run_by<
     requires eight { length nodes.items ≤ 8 }
     requires nodes { (j : ℕ) (n : OpenNode S C) → slice_get nodes.items j ≡ Some n → IsNewReplica S.meaning (j + 1) (S.shows n.replica) }
     requires lines { (home : ℕ → ℕ) × AreLines lines.now home (length nodes.items) }
-    ensures told { IfOk result.told (RunTold lines.now (record { cells = map L.view result.cells.items; register = R.view result.register; disks = map (λ n. (S.shows n.replica).faults) result.nodes.items })) }
+    requires faults { AreFaultLines lines.now faults.now K.law.shelf (length nodes.items) }
+    ensures told { IfOk result.told (RunTold lines.now faults.now (record { cells = map L.view result.cells.items; register = R.view result.register; disks = map (λ n. (S.shows n.replica).faults) result.nodes.items })) }
+    ensures acted { IfOk result.told (λ told. WasActedOn K.law faults.now (map L.view result.cells.items) (R.view result.register)) }
+    ensures armed { IfOk result.told (λ told. ArmedByStops faults.now (λ n. S.shows n.replica) nodes.items result.nodes.items) }
     ensures size { length result.nodes.items ≡ length nodes.items }
     ensures cells { length result.cells.items ≡ length cells.items }
     ensures kinds { map (λ v. v.kind) (map L.view result.cells.items) ≡ map (λ v. v.kind) (map L.view cells.items) }
 {
     let mut nodes = nodes;
-    match make_crew::<L, R, K, S, C>(alloc, cells, register, &mut nodes, lines) {
+    match make_crew::<L, R, K, S, C>(alloc, cells, register, &mut nodes, lines, faults) {
         Ok(crew) => {
-            let CrewBack { crew, answer: told } = tell(rt, alloc, crew, lines, gate);
+            let CrewBack { crew, answer: told } = tell(rt, alloc, crew, lines, faults, gate);
             let Parts { cells, register } = part_crew(crew, &mut nodes);
             Ran {
                 cells,
@@ -115,12 +123,13 @@ fn know_all<L: Loglet>(cells: &[L])
     }
 }
 
-/// Runs a script's lines: phase by phase, in each the nodes side by side in threads, each with its lines in order; then the nodes close,
-/// and the answers are told. The loglets, the register and the nodes' parts come back, whatever comes of it; nothing is told where
-/// memory was wanting.
+/// Runs a script's lines: phase by phase, in each the nodes side by side in threads, each with its lines in order, and what the phase's
+/// fault lines ask before and beside them; then the nodes close, and the answers are told. The loglets, the register and the nodes' parts
+/// come back, whatever comes of it; nothing is told where memory was wanting.
 ///
-/// Cost: that of the lines, and for each node what it has to play of the log, of the nodes side by side; and in each phase a thread for each
-/// node with lines but one. Nothing that is kept of a line is looked at again before the end.
+/// Cost: that of the lines, and for each node what it has to play of the log, of the nodes side by side; an event for each thing that fault
+/// lines break or mend, and for each old message; and in each phase a thread for each node with a part in it but one, and one where old
+/// messages come again. Nothing that is kept of a line is looked at again before the end.
 pub fn run_lines<
     L: Loglet + Send,
     R: Register + Send,
@@ -135,6 +144,7 @@ pub fn run_lines<
     register: R,
     nodes: Vec<OpenNode<S, C>>,
     lines: &[NamedLine],
+    faults: &[FaultLine],
     gate: &G,
 ) -> Ran<L, R, S, C>
     requires least { 0 < length cells.items }
@@ -144,10 +154,18 @@ pub fn run_lines<
     requires eight { length nodes.items ≤ 8 }
     requires nodes { (j : ℕ) (n : OpenNode S C) → slice_get nodes.items j ≡ Some n → IsNewReplica S.meaning (j + 1) (S.shows n.replica) }
     requires lines { (home : ℕ → ℕ) × AreLines lines.now home (length nodes.items) }
+    requires faults { AreFaultLines lines.now faults.now (map (λ v. v.servers) (map L.view cells.items)) (length nodes.items) }
     requires spelled { AllByRecursion (λ l. CanLog l.asks) lines.now }
 
-    // What is told fits the lines and what comes back.
-    ensures told { IfOk result.told (RunTold lines.now (record { cells = map L.view result.cells.items; register = R.view result.register; disks = map (λ n. (S.shows n.replica).faults) result.nodes.items })) }
+    // What is told fits the lines, the fault lines and what comes back.
+    ensures told { IfOk result.told (RunTold lines.now faults.now (record { cells = map L.view result.cells.items; register = R.view result.register; disks = map (λ n. (S.shows n.replica).faults) result.nodes.items })) }
+
+    // Number 0, which is no node, broke and mended them and had old messages come again as fault lines ask, and opened the register
+    // again at most twice as the nodes closed; nobody did so besides.
+    ensures acted { IfOk result.told (λ told. WasActedOn (law_of lines.now (length nodes.items) (map (λ v. v.servers) (map L.view cells.items))) faults.now (map L.view result.cells.items) (R.view result.register)) }
+
+    // The stops of each node, phase by phase, and nothing else, armed the disk of its state machine.
+    ensures armed { IfOk result.told (λ told. ArmedByStops faults.now (λ n. S.shows n.replica) nodes.items result.nodes.items) }
     ensures size { length result.nodes.items ≡ length nodes.items }
     ensures cells { length result.cells.items ≡ length cells.items }
     ensures kinds { map (λ v. v.kind) (map L.view result.cells.items) ≡ map (λ v. v.kind) (map L.view cells.items) }
@@ -160,5 +178,5 @@ pub fn run_lines<
     trims_are_sent();
     a_session_is_of_one_node();
     know_all(cells.as_slice());
-    run_by::<L, R, Brand, W, S, C, G>(rt, alloc, cells, register, nodes, lines, gate)
+    run_by::<L, R, Brand, W, S, C, G>(rt, alloc, cells, register, nodes, lines, faults, gate)
 }

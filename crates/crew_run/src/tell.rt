@@ -4,10 +4,14 @@ ghost use Rattle.delos_types.specs.declared.entry.Entry.{Entry};
 ghost use Rattle.turn_scopes.specs.Floors.{FloorIs};
 ghost use Rattle.node_lines.specs.Workers.{MayRun};
 ghost use Rattle.run_ends.specs.Rules.{may_of};
+ghost use Rattle.node_course.specs.FaultLines.{AreFaultLines};
 ghost use Rattle.node_crew.specs.Turns.{MaySendAll};
+ghost use Rattle.node_crew.specs.Arming.{ArmedByStops};
 ghost use Rattle.node_crew.specs.Crews.{CrewRests, CrewStands};
 ghost use Rattle.run_ends.specs.Closing.{WorkerEnd, HasClosed};
 ghost use Rattle.run_closing.specs.Finishing.{SeesAll};
+ghost use Rattle.run_closing.specs.Opening.{MendsOnly};
+ghost use Rattle.crew_run.specs.Acting.{HasActed};
 ghost use Rattle.crew_run.specs.Telling.{FitsGivenBack};
 
 use crate::laws::{
@@ -29,6 +33,7 @@ use run_ends::ends::{
 };
 use run_laws::laws::{a_calm_run_answers_all, what_ended_fits};
 use script_text::asks::NamedLine;
+use script_text::faults::FaultLine;
 use std::alloc::{AllocError, Global};
 use std::sync::Wait;
 use std::thread::Threads;
@@ -42,15 +47,20 @@ fn tell_closed<L: Loglet, R: Register, K: Terms, S: Replica, C: Chooser>(
     alloc: Global,
     crew: Crew<L, R, K, S, C>,
     lines: &[NamedLine],
+    _faults: &[FaultLine],
     end: u64,
 ) -> CrewBack<L, R, K, S, C, Told>
     requires run { MayRun K.law }
     requires may { (who : ℕ) (e : Entry) → K.law.may who e → may_of lines.now who e }
     requires floor { FloorIs K.law.floor (length crew.workers.items) }
-    requires closed { (log : List Entry) × (length log ≡ end) × HasClosed K.law S.meaning lines.now crew.fabric.journal crew.looks.items log (map (λ w. record { seat = w.seat; desks = w.desks.items }) crew.workers.items) }
+    requires closed { (log : List Entry) × (length log ≡ end) × HasClosed K.law S.meaning lines.now _faults.now crew.fabric.journal crew.looks.items log (map (λ w. record { seat = w.seat; desks = w.desks.items }) crew.workers.items) }
     requires sees { SeesAll crew.fabric.journal (λ (w : WorkerEnd). w.seat) (map (λ w. record { seat = w.seat; desks = w.desks.items }) crew.workers.items) end }
     requires stands { CrewStands K.law S.meaning crew.fabric.journal (λ w. w.seat) crew.workers.items }
-    ensures told { IfOk result.answer (FitsGivenBack K.law lines.now result.crew.fabric.journal (map (λ w. record { seat = w.seat; desks = w.desks.items }) result.crew.workers.items)) }
+    ensures told { IfOk result.answer (FitsGivenBack K.law lines.now _faults.now result.crew.fabric.journal (map (λ w. record { seat = w.seat; desks = w.desks.items }) result.crew.workers.items)) }
+
+    // The register was opened again at most once, and nothing else was broken or mended.
+    ensures mends { IfOk result.answer (λ told. MendsOnly 1 crew.fabric.journal result.crew.fabric.journal) }
+    ensures workers { result.crew.workers.items ≡ crew.workers.items }
     ensures stands { CrewStands K.law S.meaning result.crew.fabric.journal (λ w. w.seat) result.crew.workers.items }
     ensures size { length result.crew.workers.items ≡ length crew.workers.items }
 {
@@ -98,7 +108,7 @@ fn tell_closed<L: Loglet, R: Register, K: Terms, S: Replica, C: Chooser>(
     }
 }
 
-/// Plays all lines, the nodes in threads, closes the nodes, and tells the rows and the chain.
+/// Plays all lines, the nodes in threads, and what fault lines ask beside them, closes the nodes, and tells the rows and the chain.
 pub fn tell<
     L: Loglet + Send,
     R: Register + Send,
@@ -112,21 +122,29 @@ pub fn tell<
     alloc: Global,
     crew: Crew<L, R, K, S, C>,
     lines: &[NamedLine],
+    faults: &[FaultLine],
     gate: &G,
 ) -> CrewBack<L, R, K, S, C, Told>
     requires run { MayRun K.law }
     requires may { (who : ℕ) (e : Entry) → K.law.may who e → may_of lines.now who e }
     requires floor { FloorIs K.law.floor (length crew.workers.items) }
     requires sends { MaySendAll K.law.may lines.now }
+    requires faults { AreFaultLines lines.now faults.now K.law.shelf (length crew.workers.items) }
     requires eight { length crew.workers.items ≤ 8 }
     requires none { crew.fabric.journal ≡ [] }
-    requires fresh { CrewRests K.law S.meaning lines.now 0 0 crew.fabric.journal crew.looks.items (λ w. w.seat) (λ w. w.desks.items) crew.workers.items }
+    requires fresh { CrewRests K.law S.meaning lines.now faults.now 0 0 crew.fabric.journal crew.looks.items (λ w. w.seat) (λ w. w.desks.items) crew.workers.items }
     requires stands { CrewStands K.law S.meaning crew.fabric.journal (λ w. w.seat) crew.workers.items }
-    ensures told { IfOk result.answer (FitsGivenBack K.law lines.now result.crew.fabric.journal (map (λ w. record { seat = w.seat; desks = w.desks.items }) result.crew.workers.items)) }
+    ensures told { IfOk result.answer (FitsGivenBack K.law lines.now faults.now result.crew.fabric.journal (map (λ w. record { seat = w.seat; desks = w.desks.items }) result.crew.workers.items)) }
+
+    // What was broken and mended is what fault lines ask, and at most two openings of the register as the nodes closed.
+    ensures acted { IfOk result.answer (λ told. HasActed (length K.law.shelf) faults.now result.crew.fabric.journal) }
+
+    // The stops of each node, phase by phase, and nothing else, armed its disk.
+    ensures armed { IfOk result.answer (λ told. ArmedByStops faults.now (λ w. w.seat.node.replica) crew.workers.items result.crew.workers.items) }
     ensures stands { CrewStands K.law S.meaning result.crew.fabric.journal (λ w. w.seat) result.crew.workers.items }
     ensures size { length result.crew.workers.items ≡ length crew.workers.items }
 {
-    let CrewBack { crew, answer } = play_phases(rt, alloc, crew, lines, gate);
+    let CrewBack { crew, answer } = play_phases(rt, alloc, crew, lines, faults, gate);
     match answer {
         Ok(()) => {}
         Err(fault) => {
@@ -136,9 +154,9 @@ pub fn tell<
             };
         }
     }
-    let CrewBack { crew, answer } = close(crew, lines);
+    let CrewBack { crew, answer } = close(crew, lines, faults);
     match answer {
-        Ok(end) => tell_closed(alloc, crew, lines, end),
+        Ok(end) => tell_closed(alloc, crew, lines, faults, end),
         Err(fault) => {
             CrewBack {
                 crew,

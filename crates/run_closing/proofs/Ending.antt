@@ -6,18 +6,19 @@ use Rattle.legal_journal.specs.Law.{Law}
 use Rattle.legal_journal.specs.Journal.{IsLegal}
 use Rattle.virtual_log.specs.Turning.{OnlyOwn, IsAbove}
 use Rattle.base_engine.specs.declared.fault.Fault.TheVariants.{Because}
-use Rattle.base_engine.specs.Arming.{StoreTwice}
+use Rattle.base_engine.specs.Arming.{LeavesArming, StoreTwice}
 use Rattle.base_engine.specs.Causes.{Blames}
 use Rattle.base_engine.specs.Following.{IsAt, EndsBy}
 use Rattle.base_engine.specs.Node.{NodeView, Keeps}
+use Rattle.base_engine.proofs.Arming.{arming_refl, arming_trans}
 use Rattle.node_lines.specs.Moving.{Moves, Spends, strikes}
 use Rattle.node_lines.proofs.Moving.{moves-sync}
 use Rattle.node_lines.proofs.Spending.{spends-none, spends-both, spends-blames}
 use Rattle.run_closing.specs.Ending.{Reopens, PlaysOut}
 
 module _ (law : Law) where
-  pub comes_up : (old new : NodeView) → Keeps law old new → new.seen ≡ old.seen → new.replica.kept ≡ old.replica.kept → new.outbox ≡ old.outbox → strikes old.replica ≤ strikes new.replica → new.replica.down ≡ false → Reopens old new
-  comes_up old new k seen kept outbox low up = record {
+  pub comes_up : (old new : NodeView) → Keeps law old new → new.seen ≡ old.seen → new.replica.kept ≡ old.replica.kept → new.outbox ≡ old.outbox → strikes old.replica ≤ strikes new.replica → LeavesArming 0 old.replica new.replica → new.replica.down ≡ false → Reopens old new
+  comes_up old new k seen kept outbox low arms up = record {
     who = k.who;
     nodes = k.nodes;
     origin = k.origin;
@@ -25,14 +26,15 @@ module _ (law : Law) where
     forward = k.forward;
     counts = k.counts;
     struck = low;
+    arming = arms;
     kept = kept;
     outbox = outbox;
     up = inl up;
   }
 
   pub stays_down : (old new : NodeView) (c : Cause) → Keeps law old new → new.seen ≡ old.seen → new.replica.kept ≡ old.replica.kept → new.outbox ≡ old.outbox
-      → strikes old.replica ≤ strikes new.replica → Blames old.who old.seen old.replica.faults (Because c) new.seen new.replica.faults → StoreTwice old.replica (Because c) new.replica → Reopens old new
-  stays_down old new c k seen kept outbox low blames twice = record {
+      → strikes old.replica ≤ strikes new.replica → Blames old.who old.seen old.replica.faults (Because c) new.seen new.replica.faults → StoreTwice old.replica (Because c) new.replica → LeavesArming 0 old.replica new.replica → Reopens old new
+  stays_down old new c k seen kept outbox low blames twice arms = record {
     who = k.who;
     nodes = k.nodes;
     origin = k.origin;
@@ -40,6 +42,7 @@ module _ (law : Law) where
     forward = k.forward;
     counts = k.counts;
     struck = low;
+    arming = arms;
     kept = kept;
     outbox = outbox;
     up = inr (record { cause = c; spends = spends-blames old.who old.seen new.seen c old.replica new.replica (k.later.more, k.later.seen) low blames twice });
@@ -62,12 +65,12 @@ module _ (law : Law) where
         let none = sym (append-nil n.seen) in
         moves-sync law low n n []
         (record { who = refl; nodes = refl; origin = refl; later = record { more = []; seen = none; legal = legal }; forward = omega arith; counts = omega arith })
-        refl refl (spends-none n.who n.seen n.seen (strikes n.replica) (strikes n.replica) ([], none) (omega arith))
+        refl refl (arming_refl 0 n.replica) (spends-none n.who n.seen n.seen (strikes n.replica) (strikes n.replica) ([], none) (omega arith))
 
-    pub moves_on : (old mid new : NodeView) → Reopens old mid → Keeps law mid new → strikes mid.replica ≤ strikes new.replica → new.replica.kept ≡ mid.replica.kept → new.outbox ≡ mid.outbox → Moves law old new []
-    moves_on old mid new r k rise kept outbox =
+    pub moves_on : (old mid new : NodeView) → Reopens old mid → Keeps law mid new → strikes mid.replica ≤ strikes new.replica → new.replica.kept ≡ mid.replica.kept → new.outbox ≡ mid.outbox → LeavesArming 0 mid.replica new.replica → Moves law old new []
+    moves_on old mid new r k rise kept outbox arms =
         let on = keeps_on old mid new r k in
-        moves-sync law low old new [] on (outbox ∙ r.outbox) (kept ∙ r.kept) (spends-none old.who old.seen new.seen (strikes old.replica) (strikes new.replica) (on.later.more, on.later.seen) (omega (arith, r.struck, rise)))
+        moves-sync law low old new [] on (outbox ∙ r.outbox) (kept ∙ r.kept) (arming_trans 0 old.replica mid.replica new.replica r.arming arms) (spends-none old.who old.seen new.seen (strikes old.replica) (strikes new.replica) (on.later.more, on.later.seen) (omega (arith, r.struck, rise)))
 
   pub played : (old mid new : NodeView) (tail : ℕ) → Reopens old mid → IsAbove mid.who mid.seen tail new.seen → IsAt tail new.replica new.seen → EndsBy mid.who mid.replica.cursor mid.seen tail new.seen → PlaysOut old new
   played old mid new tail r above at exact = inl (record {

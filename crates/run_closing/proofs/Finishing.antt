@@ -11,6 +11,7 @@ use Rattle.engine_steps.specs.Layout.{has_left_in}
 use Rattle.base_engine.specs.Node.{NodeView}
 use Rattle.replica_api.specs.Replica.{Meaning}
 use Rattle.script_text.specs.declared.asks.NamedLine.{NamedLine}
+use Rattle.script_text.specs.declared.faults.FaultLine.{FaultLine}
 use Rattle.turn_scopes.specs.Alone.{OwnSince}
 use Rattle.turn_scopes.specs.Seats.{SeatView, SeatOk, node_of}
 use Rattle.node_lines.specs.declared.desk.Desk.{Desk}
@@ -35,7 +36,7 @@ use Rattle.run_closing.specs.Ending.{Finishes, HasGone, IsCalled, PlaysOut}
 use Rattle.run_closing.specs.Finishing.{AllLeft, AreCalls, HasFinished, HasLeft, HasMost, IsMost, MembersPlay, PassesBut, PassesBy, PlaysAt, PlaysLast, StaysAsItWas}
 use Rattle.run_closing.proofs.Putting.{same_some, some_at}
 
-module _ {A : Type 0} (law : Law) (meaning : Meaning) (lines : List NamedLine) (seat : A → SeatView) (desks : A → List Desk) (workers : List A) (from phase : ℕ) (journal : List Event) (looks : List (Option Looked)) (h : CrewRests law meaning lines from phase journal looks seat desks workers) where
+module _ {A : Type 0} (law : Law) (meaning : Meaning) (lines : List NamedLine) (faults : List FaultLine) (seat : A → SeatView) (desks : A → List Desk) (workers : List A) (from phase : ℕ) (journal : List Event) (looks : List (Option Looked)) (h : CrewRests law meaning lines faults from phase journal looks seat desks workers) where
   pub seen_at : (k : ℕ) (w : A) → slice_get workers k ≡ Some w → HasSeenAll phase h.begins journal (h.courses (k + 1))
   seen_at k w at = let inside = slice_get_within workers k w at in h.seen (k + 1) (omega arith) (omega (arith, inside))
 
@@ -99,7 +100,7 @@ module _ {A : Type 0} (law : Law) (meaning : Meaning) (lines : List NamedLine) (
         then_others law meaning lines seat desks workers run h.home h.courses phase h.begins from phase k journal journal' looks looks w w' at h.seen rested_since (keeps_none lines (k + 1) looks) rested j from phase x other.0 other.1 (h.each j x other.1)
 
     -- a node has made its last calls
-    pub crew_finished : from ≡ length lines → CrewRests law meaning lines from phase journal' looks seat desks (slice_set workers k w')
+    pub crew_finished : from ≡ length lines → CrewRests law meaning lines faults from phase journal' looks seat desks (slice_set workers k w')
     crew_finished over = record {
       home = h.home;
       courses = λ m. courses_then h.courses (k + 1) rested.course rested_since.more m;
@@ -109,7 +110,7 @@ module _ {A : Type 0} (law : Law) (meaning : Meaning) (lines : List NamedLine) (
       long = h.long;
       made = λ i l get low.
           let early = h.ends.before i l get (let inside = slice_get_within lines i l get in omega (arith, inside, over)) in
-          worked_before lines phase h.begins journal journal' l.phase h.long (omega (arith, early)) (h.made i l get low);
+          worked_before lines faults phase h.begins journal journal' l.phase h.long (omega (arith, early)) (h.made i l get low);
       seals = subst (λ n. SealsOfNodes n journal') (sym size)
           (then_seals law meaning lines seat desks workers run h.home h.courses phase h.begins from phase k journal journal' looks looks w w' at h.seen rested_since (keeps_none lines (k + 1) looks) rested h.seals);
       behind = then_behind law meaning lines seat desks workers run h.home h.courses phase h.begins from phase k journal journal' looks looks w w' at h.seen rested_since (keeps_none lines (k + 1) looks) rested h.behind;

@@ -1,6 +1,7 @@
 pub mod Ending
 pub mod Collecting
 pub mod Ok
+pub mod Mending
 pub mod Opening
 pub mod Putting
 pub mod Calm

@@ -16,6 +16,7 @@ use Rattle.base_engine.specs.Node.{NodeView}
 use Rattle.turn_scopes.specs.Floors.{FloorIs}
 use Rattle.script_text.specs.declared.line.Admin.TheVariants.{Retire}
 use Rattle.script_text.specs.declared.asks.NamedLine.{NamedLine}
+use Rattle.script_text.specs.declared.faults.FaultLine.{FaultLine}
 use Rattle.script_text.specs.declared.asks.Asks.TheVariants as asks
 use Rattle.fitting_run.specs.Faults.{lacks_store}
 use Rattle.turn_scopes.specs.Alone.{OwnSince}
@@ -124,7 +125,7 @@ module _ {A : Type 0} (seat : A → SeatView) (workers : List A) (k : ℕ) (w w'
           subst (λ y. (seat y).node.replica.faults ≡ 0) one (omega (arith, none, counts))
       by j x is (inr other) = calm.disks j x (set_other workers k j w' other ∙ is)
 
-  module _ (law : Law) (meaning : Meaning) (run : MayRun law) (lines : List NamedLine) (desks : A → List Desk) (from phase : ℕ) (journal journal' : List Event) (looks : List (Option Looked)) (h : CrewRests law meaning lines from phase journal looks seat desks workers) (over : from ≡ length lines) (rule : FloorIs law.floor (length workers)) (since : OwnSince (k + 1) journal journal') (own_since : OwnSince (seat w).who journal journal') (adds : OwnAdds (k + 1) IsOfSessions (h.courses (k + 1)).seen journal') (rests : HasRested law meaning lines h.home (length workers) (h.courses (k + 1)) looks (k + 1) from phase journal' (seat w') (desks w')) (new : CrewRests law meaning lines from phase journal' looks seat desks (slice_set workers k w')) (forward : (seat w).node.replica.cursor ≤ (seat w').node.replica.cursor) (rises : (seat w).node.replica.faults ≤ (seat w').node.replica.faults) where
+  module _ (law : Law) (meaning : Meaning) (run : MayRun law) (lines : List NamedLine) (faults : List FaultLine) (desks : A → List Desk) (from phase : ℕ) (journal journal' : List Event) (looks : List (Option Looked)) (h : CrewRests law meaning lines faults from phase journal looks seat desks workers) (over : from ≡ length lines) (rule : FloorIs law.floor (length workers)) (since : OwnSince (k + 1) journal journal') (own_since : OwnSince (seat w).who journal journal') (adds : OwnAdds (k + 1) IsOfSessions (h.courses (k + 1)).seen journal') (rests : HasRested law meaning lines h.home (length workers) (h.courses (k + 1)) looks (k + 1) from phase journal' (seat w') (desks w')) (new : CrewRests law meaning lines faults from phase journal' looks seat desks (slice_set workers k w')) (forward : (seat w).node.replica.cursor ≤ (seat w').node.replica.cursor) (rises : (seat w).node.replica.faults ≤ (seat w').node.replica.faults) where
     abbrev cursor : ℕ
     cursor = (seat w).node.replica.cursor
 
@@ -132,7 +133,7 @@ module _ {A : Type 0} (seat : A → SeatView) (workers : List A) (k : ℕ) (w w'
     legal = subst (IsLegal law) rests.seen_is rests.rests.node.did.legal
 
     was_seen : (h.courses (k + 1)).seen ≡ journal
-    was_seen = (seen_at law meaning lines seat desks workers from phase journal looks h k w at).seen_is
+    was_seen = (seen_at law meaning lines faults seat desks workers from phase journal looks h k w at).seen_is
 
     inside : k < length workers
     inside = slice_get_within workers k w at
@@ -180,7 +181,7 @@ module _ {A : Type 0} (seat : A → SeatView) (workers : List A) (k : ℕ) (w w'
             by y is (inr other) =
                 let there : slice_get (slice_set workers k w') (m - 1) ≡ Some y = set_other workers k (m - 1) w' other ∙ is in
                 let low : ReportsUpTo (m - 1 + 1) (seat y).node.replica.cursor journal' =
-                subst (ReportsUpTo (m - 1 + 1) (seat y).node.replica.cursor) (seen_at law meaning lines seat desks (slice_set workers k w') from phase journal' looks new (m - 1) y there).seen_is
+                subst (ReportsUpTo (m - 1 + 1) (seat y).node.replica.cursor) (seen_at law meaning lines faults seat desks (slice_set workers k w') from phase journal' looks new (m - 1) y there).seen_is
                 (new.each (m - 1) y there).node.reports in
                 subst (λ q. ReportsUpTo m q journal') (sym (cursor_there seat (slice_get workers (m - 1)) y is))
                 (subst (λ q. ReportsUpTo q (seat y).node.replica.cursor journal') back low)

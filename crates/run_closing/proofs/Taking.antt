@@ -19,6 +19,7 @@ use Rattle.base_engine.specs.Node.{NodeView, NodeOk}
 use Rattle.base_engine.specs.Settling.{MaySend}
 use Rattle.base_engine.specs.declared.outbox.Given.{Given}
 use Rattle.script_text.specs.declared.asks.NamedLine.{NamedLine}
+use Rattle.script_text.specs.declared.faults.FaultLine.{FaultLine}
 use Rattle.turn_scopes.specs.Seats.{SeatView, SeatOk, node_of}
 use Rattle.node_lines.specs.declared.desk.Desk.{Desk}
 use Rattle.node_lines.specs.Answered.{AreAllAnswers}
@@ -85,10 +86,10 @@ pub record Turned {A : Type 0} (law : Law) (meaning : Meaning) (journal : List E
   pub ok : SeatOk law meaning journal (seat w')
   pub kept : j ≢ k → desks w' ≡ desks w
 
-module _ {A : Type 0} (law : Law) (meaning : Meaning) (lines : List NamedLine) (seat : A → SeatView) (desks : A → List Desk) (workers : List A) (journal : List Event) (looks : List (Option Looked)) where
+module _ {A : Type 0} (law : Law) (meaning : Meaning) (lines : List NamedLine) (faults : List FaultLine) (seat : A → SeatView) (desks : A → List Desk) (workers : List A) (journal : List Event) (looks : List (Option Looked)) where
   -- all have played what they could
-  pub takes_first : (phase node cursor : ℕ) → CrewRests law meaning lines (length lines) phase journal looks seat desks workers → HasMost seat workers (length workers) node cursor → SeesAll journal seat workers cursor
-      → CrewTakes law meaning lines node cursor 0 journal looks seat desks workers
+  pub takes_first : (phase node cursor : ℕ) → CrewRests law meaning lines faults (length lines) phase journal looks seat desks workers → HasMost seat workers (length workers) node cursor → SeesAll journal seat workers cursor
+      → CrewTakes law meaning lines faults node cursor 0 journal looks seat desks workers
   takes_first phase node cursor h m sees = record {
     home = h.home;
     run = record { seen = journal; phase = phase; begins = h.begins; faults = faults_to h.courses (length workers); when = λ s. (h.courses (h.home s)).when s };
@@ -108,13 +109,13 @@ module _ {A : Type 0} (law : Law) (meaning : Meaning) (lines : List NamedLine) (
     behind = h.behind;
     log = front.log;
     size = long;
-    front = subst (λ i. IsFront Holds i front.log) (seen_at law meaning lines seat desks workers (length lines) phase journal looks h node best.0 best.1).seen_is front.front;
+    front = subst (λ i. IsFront Holds i front.log) (seen_at law meaning lines faults seat desks workers (length lines) phase journal looks h node best.0 best.1).seen_is front.front;
     sees = sees;
     there = m.there;
     most = m.at some;
     taken = λ j w less at. absurd (omega (arith, less));
     waits = λ j w high at. record {
-      rests = subst (λ p. Rests law meaning lines h.home (length workers) (h.courses (j + 1)) looks (j + 1) (length lines) p (seat w) (desks w)) (sym (seen_at law meaning lines seat desks workers (length lines) phase journal looks h j w at).phase_is) (h.each j w at);
+      rests = subst (λ p. Rests law meaning lines h.home (length workers) (h.courses (j + 1)) looks (j + 1) (length lines) p (seat w) (desks w)) (sym (seen_at law meaning lines faults seat desks workers (length lines) phase journal looks h j w at).phase_is) (h.each j w at);
       short = let low = m.most j w (slice_get_within workers j w at) at in let is = long in omega (arith, low, is);
     };
   }
@@ -137,7 +138,7 @@ module _ {A : Type 0} (law : Law) (meaning : Meaning) (lines : List NamedLine) (
           let same : n - 1 + 1 ≡ n = omega (arith, least) in
           subst (λ k. IsCourse law lines (length workers) k (h.courses k) looks) same (h.each (n - 1) w.0 w.1).node.did
 
-  module _ (node cursor k : ℕ) (h : CrewTakes law meaning lines node cursor k journal looks seat desks workers) where
+  module _ (node cursor k : ℕ) (h : CrewTakes law meaning lines faults node cursor k journal looks seat desks workers) where
     rest_of : (j : ℕ) (w : A) → slice_get workers j ≡ Some w → (was : List Desk) × Rests law meaning lines h.home (length workers) (h.courses (j + 1)) looks (j + 1) (length lines) (h.courses (j + 1)).phase (seat w) was
     rest_of j w at = by (cases_lt j k)
       where
@@ -291,7 +292,7 @@ module _ {A : Type 0} (law : Law) (meaning : Meaning) (lines : List NamedLine) (
                   each = λ s d get. desk_closed s w w' d at-k at-k' get;
                 }
 
-        pub takes_more : CrewTakes law meaning lines node cursor (k + 1) journal looks seat desks workers'
+        pub takes_more : CrewTakes law meaning lines faults node cursor (k + 1) journal looks seat desks workers'
         takes_more = record {
           home = h.home;
           run = h.run;
@@ -348,7 +349,7 @@ module _ {A : Type 0} (law : Law) (meaning : Meaning) (lines : List NamedLine) (
       pub own_stands : CrewStands law meaning journal seat (slice_set workers k y)
       own_stands = stands_then (slice_set workers k y) own_size own_turned
 
-      pub own_taken : node ≡ k → TakesAll (node_of (seat b) journal) (desks b) (desks y) → CrewTakes law meaning lines node cursor (k + 1) journal looks seat desks (slice_set workers k y)
+      pub own_taken : node ≡ k → TakesAll (node_of (seat b) journal) (desks b) (desks y) → CrewTakes law meaning lines faults node cursor (k + 1) journal looks seat desks (slice_set workers k y)
       own_taken here t = takes_more (slice_set workers k y) own_size own_turned b (ap (slice_get workers) here ∙ best) (λ w w' at at'.
           subst (λ x. TakesAll (node_of (seat b) journal) (desks x) (desks w')) (same_some b w (sym best ∙ at))
           (subst (λ x. TakesAll (node_of (seat b) journal) (desks b) (desks x)) (same_some y w' (sym (set_same workers k y b best) ∙ at')) t))
@@ -391,7 +392,7 @@ module _ {A : Type 0} (law : Law) (meaning : Meaning) (lines : List NamedLine) (
       now_at : (w' : A) → slice_get (slice_set mid node z) k ≡ Some w' → y ≡ w'
       now_at w' get = same_some y w' (sym (set_same workers k y w at) ∙ sym (set_other mid node k z (λ e. apart (sym e))) ∙ get)
 
-      pub other_taken : TakesAll (node_of (seat b) journal) (desks w) (desks y) → CrewTakes law meaning lines node cursor (k + 1) journal looks seat desks (slice_set mid node z)
+      pub other_taken : TakesAll (node_of (seat b) journal) (desks w) (desks y) → CrewTakes law meaning lines faults node cursor (k + 1) journal looks seat desks (slice_set mid node z)
       other_taken t = takes_more (slice_set mid node z) other_size other_turned b best (λ x w' get get'.
           subst (λ v. TakesAll (node_of (seat b) journal) (desks v) (desks w')) (same_some w x (sym at ∙ get))
           (subst (λ v. TakesAll (node_of (seat b) journal) (desks w) (desks v)) (now_at w' get') t))

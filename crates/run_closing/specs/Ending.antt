@@ -3,6 +3,7 @@ use Rattle.std.specs.Prelude.{◌≡◌, ℕ, ◌≤◌, ◌⊎◌, Bool, true, 
 use Rattle.delos_types.specs.declared.cause.Cause.{Cause}
 use Rattle.engine_steps.specs.Layout.{has_left_in}
 use Rattle.virtual_log.specs.Turning.{IsAbove}
+use Rattle.base_engine.specs.Arming.{LeavesArming}
 use Rattle.base_engine.specs.Following.{IsAt, EndsBy}
 use Rattle.base_engine.specs.Node.{NodeView}
 use Rattle.node_lines.specs.Moving.{Spends, strikes}
@@ -14,7 +15,7 @@ pub record Fails (old new : NodeView) : Type 0 where
   pub cause : Cause
   pub spends : Spends old.who old.seen new.seen (strikes old.replica) (strikes new.replica) (cause ∷ [])
 
--- The store is up, or the disk failed. Nothing was seen, sent or settled.
+-- The store is up, or the disk failed. Nothing was seen, sent or settled, and the disk wasn't armed.
 pub record Reopens (old new : NodeView) : Type 0 where
   pub who : new.who ≡ old.who
   pub nodes : new.nodes ≡ old.nodes
@@ -23,6 +24,7 @@ pub record Reopens (old new : NodeView) : Type 0 where
   pub forward : old.replica.cursor ≤ new.replica.cursor
   pub counts : old.replica.faults ≤ new.replica.faults
   pub struck : strikes old.replica ≤ strikes new.replica
+  pub arming : LeavesArming 0 old.replica new.replica
   pub kept : new.replica.kept ≡ old.replica.kept
   pub outbox : new.outbox ≡ old.outbox
   pub up : (new.replica.down ≡ false) ⊎ Fails old new

@@ -7,6 +7,7 @@ use Rattle.journal_laws.specs.Faults.{faults_in}
 use Rattle.engine_steps.specs.Layout.{has_left_in}
 use Rattle.replica_api.specs.Replica.{Meaning}
 use Rattle.script_text.specs.declared.asks.NamedLine.{NamedLine}
+use Rattle.script_text.specs.declared.faults.FaultLine.{FaultLine}
 use Rattle.turn_scopes.specs.Seats.{SeatView, node_of}
 use Rattle.node_lines.specs.declared.desk.Desk.{Desk}
 use Rattle.node_lines.specs.declared.lines.Looked.{Looked}
@@ -20,8 +21,8 @@ use Rattle.run_closing.specs.declared.last.Reach.{Reach}
 use Rattle.run_closing.specs.Ending.{Finishes, PlaysOut}
 
 -- all lines were played, and each node rests
-abbrev pub HasPlayed : {A : Type 0} → Law → Meaning → List NamedLine → List Event → List (Option Looked) → (A → SeatView) → (A → List Desk) → List A → Type 0
-HasPlayed {A} law meaning lines journal looks seat desks workers = (phase : ℕ) × CrewRests law meaning lines (length lines) phase journal looks seat desks workers
+abbrev pub HasPlayed : {A : Type 0} → Law → Meaning → List NamedLine → List FaultLine → List Event → List (Option Looked) → (A → SeatView) → (A → List Desk) → List A → Type 0
+HasPlayed {A} law meaning lines faults journal looks seat desks workers = (phase : ℕ) × CrewRests law meaning lines faults (length lines) phase journal looks seat desks workers
 
 -- a line of node n came to its leaving
 abbrev pub HasLeave : List NamedLine → List (Option Looked) → ℕ → Type 0

@@ -7,6 +7,7 @@ use Rattle.replica_api.specs.Replica.{Meaning}
 use Rattle.virtual_log.specs.Holding.{Holds}
 use Rattle.base_engine.specs.Reading.{IsFront}
 use Rattle.script_text.specs.declared.asks.NamedLine.{NamedLine}
+use Rattle.script_text.specs.declared.faults.FaultLine.{FaultLine}
 use Rattle.turn_scopes.specs.Seats.{SeatView}
 use Rattle.node_lines.specs.declared.desk.Desk.{Desk}
 use Rattle.node_lines.specs.declared.lines.Looked.{Looked}
@@ -26,7 +27,7 @@ pub record WaitsToTake (law : Law) (meaning : Meaning) (lines : List NamedLine) 
 
 -- The node at index `node` has played most of the log, just `log`, which has so many entries as `cursor` says. The answers of
 -- the first k nodes' sessions were taken there.
-pub record CrewTakes {A : Type 0} (law : Law) (meaning : Meaning) (lines : List NamedLine) (node cursor k : ℕ) (journal : List Event) (looks : List (Option Looked)) (seat : A → SeatView) (desks : A → List Desk) (workers : List A) : Type 0 where
+pub record CrewTakes {A : Type 0} (law : Law) (meaning : Meaning) (lines : List NamedLine) (faults : List FaultLine) (node cursor k : ℕ) (journal : List Event) (looks : List (Option Looked)) (seat : A → SeatView) (desks : A → List Desk) (workers : List A) : Type 0 where
   pub home : ℕ → ℕ
   pub run : NodeCourse
   pub courses : ℕ → NodeCourse
@@ -34,7 +35,7 @@ pub record CrewTakes {A : Type 0} (law : Law) (meaning : Meaning) (lines : List 
   pub lines_are : AreLines lines home (length workers)
   pub joined : AreJoined law lines home (length workers) run looks courses
   pub over : (i : ℕ) (l : NamedLine) → slice_get lines i ≡ Some l → l.phase < run.phase
-  pub made : AreOfPhases lines run.phase run.begins journal
+  pub made : AreOfPhases lines faults run.phase run.begins journal
   pub seals : SealsOfNodes (length workers) journal
   pub behind : AreBehind journal
   pub log : List Entry

@@ -3,8 +3,10 @@ ghost use Rattle.std.specs.Prelude.{◌≡◌, ◌⊎◌, ◌<◌, ◌≤◌, �
 ghost use Rattle.turn_scopes.specs.Floors.{FloorIs};
 ghost use Rattle.node_lines.specs.declared.lines.Looked.TheVariants as looked;
 ghost use Rattle.node_lines.specs.Workers.{MayRun, Grows};
+ghost use Rattle.node_crew.specs.Arming.{NoneArmed};
 ghost use Rattle.node_crew.specs.Crews.{CrewStands};
 ghost use Rattle.run_closing.specs.Finishing.{AllLeft, AreCalls, HasLeave, HasNoLeave, HasPlayed, HasFinished, HasMost, IsMost, MembersPlay, PassesBut, PassesBy, PlaysLast, SeesAll};
+ghost use Rattle.run_closing.specs.Opening.{MakesNoFaults};
 
 use crate::last::{Calls, Reach};
 use crate::turns::finish_worker;
@@ -17,6 +19,7 @@ use node_workers::back::Back;
 use register_api::Register;
 use replica_api::replica::Replica;
 use script_text::asks::NamedLine;
+use script_text::faults::FaultLine;
 use turn_scopes::lone::Lone;
 use turn_scopes::terms::Terms;
 
@@ -100,19 +103,22 @@ fn finish_node<L: Loglet, R: Register, K: Terms, S: Replica, C: Chooser>(
     crew: Crew<L, R, K, S, C>,
     k: usize,
     lines: &[NamedLine],
+    _faults: &[FaultLine],
     last: bool,
 ) -> CrewBack<L, R, K, S, C, Reach>
     requires run { MayRun K.law }
     requires floor { FloorIs K.law.floor (length crew.workers.items) }
     requires there { k < length crew.workers.items }
-    requires rests { HasPlayed K.law S.meaning lines.now crew.fabric.journal crew.looks.items (λ w. w.seat) (λ w. w.desks.items) crew.workers.items }
-    ensures rests { OnOk result.answer (HasPlayed K.law S.meaning lines.now result.crew.fabric.journal result.crew.looks.items (λ w. w.seat) (λ w. w.desks.items) result.crew.workers.items) }
+    requires rests { HasPlayed K.law S.meaning lines.now _faults.now crew.fabric.journal crew.looks.items (λ w. w.seat) (λ w. w.desks.items) crew.workers.items }
+    ensures rests { OnOk result.answer (HasPlayed K.law S.meaning lines.now _faults.now result.crew.fabric.journal result.crew.looks.items (λ w. w.seat) (λ w. w.desks.items) result.crew.workers.items) }
     ensures finishes { IfOk result.answer (HasFinished lines.now crew.looks.items last crew.fabric.journal result.crew.fabric.journal (λ w. w.seat) crew.workers.items result.crew.workers.items k) }
 
     // Where it played, and no fault came, that was the whole log.
     ensures sees { IfOk result.answer (λ reach. reach.passed ≡ false → (last ≡ true → IsMost (λ w. w.seat) crew.workers.items k) → SeesAll result.crew.fabric.journal (λ w. w.seat) result.crew.workers.items reach.cursor) }
     ensures looks { result.crew.looks.items ≡ crew.looks.items }
     ensures grows { Grows crew.fabric.journal result.crew.fabric.journal }
+    ensures quiet { MakesNoFaults crew.fabric.journal result.crew.fabric.journal }
+    ensures armed { OnOk result.answer (NoneArmed (λ w. w.seat.node.replica) crew.workers.items result.crew.workers.items) }
     ensures stands { CrewStands K.law S.meaning result.crew.fabric.journal (λ w. w.seat) result.crew.workers.items }
     ensures size { length result.crew.workers.items ≡ length crew.workers.items }
 {
@@ -154,11 +160,12 @@ fn finish_node<L: Loglet, R: Register, K: Terms, S: Replica, C: Chooser>(
 fn finish_each<L: Loglet, R: Register, K: Terms, S: Replica, C: Chooser>(
     crew: Crew<L, R, K, S, C>,
     lines: &[NamedLine],
+    faults: &[FaultLine],
 ) -> CrewBack<L, R, K, S, C, Ends>
     requires run { MayRun K.law }
     requires floor { FloorIs K.law.floor (length crew.workers.items) }
-    requires rests { HasPlayed K.law S.meaning lines.now crew.fabric.journal crew.looks.items (λ w. w.seat) (λ w. w.desks.items) crew.workers.items }
-    ensures rests { OnOk result.answer (HasPlayed K.law S.meaning lines.now result.crew.fabric.journal result.crew.looks.items (λ w. w.seat) (λ w. w.desks.items) result.crew.workers.items) }
+    requires rests { HasPlayed K.law S.meaning lines.now faults.now crew.fabric.journal crew.looks.items (λ w. w.seat) (λ w. w.desks.items) crew.workers.items }
+    ensures rests { OnOk result.answer (HasPlayed K.law S.meaning lines.now faults.now result.crew.fabric.journal result.crew.looks.items (λ w. w.seat) (λ w. w.desks.items) result.crew.workers.items) }
     ensures most { IfOk result.answer (λ ends. HasMost (λ w. w.seat) result.crew.workers.items (length result.crew.workers.items) ends.most.node ends.most.cursor) }
 
     // Where not all were passed by, and no fault came, that is the whole log.
@@ -171,6 +178,8 @@ fn finish_each<L: Loglet, R: Register, K: Terms, S: Replica, C: Chooser>(
     ensures some { IfOk result.answer (λ ends. ends.passed ≡ false → AllLeft lines.now crew.looks.items (λ w. w.seat) crew.workers.items → ⊥) }
     ensures looks { result.crew.looks.items ≡ crew.looks.items }
     ensures grows { Grows crew.fabric.journal result.crew.fabric.journal }
+    ensures quiet { MakesNoFaults crew.fabric.journal result.crew.fabric.journal }
+    ensures armed { OnOk result.answer (NoneArmed (λ w. w.seat.node.replica) crew.workers.items result.crew.workers.items) }
     ensures stands { CrewStands K.law S.meaning result.crew.fabric.journal (λ w. w.seat) result.crew.workers.items }
     ensures size { length result.crew.workers.items ≡ length crew.workers.items }
 {
@@ -178,7 +187,7 @@ fn finish_each<L: Loglet, R: Register, K: Terms, S: Replica, C: Chooser>(
     let mut most = Most { node: 0, cursor: 0 };
     let mut passed = true;
     for k in 0..crew.workers.len() {
-        let CrewBack { crew: now, answer } = finish_node(crew, k, lines, false);
+        let CrewBack { crew: now, answer } = finish_node(crew, k, lines, faults, false);
         crew = now;
         match answer {
             Ok(reach) => {
@@ -204,20 +213,23 @@ fn finish_most<L: Loglet, R: Register, K: Terms, S: Replica, C: Chooser>(
     crew: Crew<L, R, K, S, C>,
     ends: Ends,
     lines: &[NamedLine],
+    faults: &[FaultLine],
 ) -> CrewBack<L, R, K, S, C, Most>
     requires run { MayRun K.law }
     requires floor { FloorIs K.law.floor (length crew.workers.items) }
-    requires rests { HasPlayed K.law S.meaning lines.now crew.fabric.journal crew.looks.items (λ w. w.seat) (λ w. w.desks.items) crew.workers.items }
+    requires rests { HasPlayed K.law S.meaning lines.now faults.now crew.fabric.journal crew.looks.items (λ w. w.seat) (λ w. w.desks.items) crew.workers.items }
     requires most { HasMost (λ w. w.seat) crew.workers.items (length crew.workers.items) ends.most.node ends.most.cursor }
     requires sees { ends.passed ≡ false → SeesAll crew.fabric.journal (λ w. w.seat) crew.workers.items ends.most.cursor }
     requires stands { CrewStands K.law S.meaning crew.fabric.journal (λ w. w.seat) crew.workers.items }
-    ensures rests { OnOk result.answer (HasPlayed K.law S.meaning lines.now result.crew.fabric.journal result.crew.looks.items (λ w. w.seat) (λ w. w.desks.items) result.crew.workers.items) }
+    ensures rests { OnOk result.answer (HasPlayed K.law S.meaning lines.now faults.now result.crew.fabric.journal result.crew.looks.items (λ w. w.seat) (λ w. w.desks.items) result.crew.workers.items) }
     ensures most { IfOk result.answer (λ most. (most.node ≡ ends.most.node) × HasMost (λ w. w.seat) result.crew.workers.items (length result.crew.workers.items) most.node most.cursor) }
     ensures sees { IfOk result.answer (λ most. SeesAll result.crew.fabric.journal (λ w. w.seat) result.crew.workers.items most.cursor) }
     ensures passes { OnOk result.answer (PassesBut ends.most.node lines.now crew.looks.items (λ w. w.seat) crew.workers.items result.crew.workers.items) }
     ensures plays { OnOk result.answer (ends.passed ≡ true → PlaysLast ends.most.node crew.fabric.journal result.crew.fabric.journal (λ w. w.seat) crew.workers.items result.crew.workers.items) }
     ensures still { OnOk result.answer (ends.passed ≡ false → (result.crew.workers.items ≡ crew.workers.items) × (result.crew.fabric.journal ≡ crew.fabric.journal)) }
     ensures grows { Grows crew.fabric.journal result.crew.fabric.journal }
+    ensures quiet { MakesNoFaults crew.fabric.journal result.crew.fabric.journal }
+    ensures armed { OnOk result.answer (NoneArmed (λ w. w.seat.node.replica) crew.workers.items result.crew.workers.items) }
     ensures stands { CrewStands K.law S.meaning result.crew.fabric.journal (λ w. w.seat) result.crew.workers.items }
     ensures size { length result.crew.workers.items ≡ length crew.workers.items }
 {
@@ -227,7 +239,7 @@ fn finish_most<L: Loglet, R: Register, K: Terms, S: Replica, C: Chooser>(
             answer: Ok(ends.most),
         };
     }
-    let CrewBack { crew, answer } = finish_node(crew, ends.most.node, lines, true);
+    let CrewBack { crew, answer } = finish_node(crew, ends.most.node, lines, faults, true);
     match answer {
         Ok(reach) => {
             CrewBack {
@@ -252,11 +264,12 @@ fn finish_most<L: Loglet, R: Register, K: Terms, S: Replica, C: Chooser>(
 pub fn finish_all<L: Loglet, R: Register, K: Terms, S: Replica, C: Chooser>(
     crew: Crew<L, R, K, S, C>,
     lines: &[NamedLine],
+    faults: &[FaultLine],
 ) -> CrewBack<L, R, K, S, C, Most>
     requires run { MayRun K.law }
     requires floor { FloorIs K.law.floor (length crew.workers.items) }
-    requires rests { HasPlayed K.law S.meaning lines.now crew.fabric.journal crew.looks.items (λ w. w.seat) (λ w. w.desks.items) crew.workers.items }
-    ensures rests { OnOk result.answer (HasPlayed K.law S.meaning lines.now result.crew.fabric.journal result.crew.looks.items (λ w. w.seat) (λ w. w.desks.items) result.crew.workers.items) }
+    requires rests { HasPlayed K.law S.meaning lines.now faults.now crew.fabric.journal crew.looks.items (λ w. w.seat) (λ w. w.desks.items) crew.workers.items }
+    ensures rests { OnOk result.answer (HasPlayed K.law S.meaning lines.now faults.now result.crew.fabric.journal result.crew.looks.items (λ w. w.seat) (λ w. w.desks.items) result.crew.workers.items) }
     ensures most { IfOk result.answer (λ most. HasMost (λ w. w.seat) result.crew.workers.items (length result.crew.workers.items) most.node most.cursor) }
     ensures sees { IfOk result.answer (λ most. SeesAll result.crew.fabric.journal (λ w. w.seat) result.crew.workers.items most.cursor) }
 
@@ -269,12 +282,14 @@ pub fn finish_all<L: Loglet, R: Register, K: Terms, S: Replica, C: Chooser>(
     ensures greatest { IfOk result.answer (λ most. AllLeft lines.now crew.looks.items (λ w. w.seat) crew.workers.items → IsMost (λ w. w.seat) crew.workers.items most.node) }
     ensures last { IfOk result.answer (λ most. AllLeft lines.now crew.looks.items (λ w. w.seat) crew.workers.items → PlaysLast most.node crew.fabric.journal result.crew.fabric.journal (λ w. w.seat) crew.workers.items result.crew.workers.items) }
     ensures grows { Grows crew.fabric.journal result.crew.fabric.journal }
+    ensures quiet { MakesNoFaults crew.fabric.journal result.crew.fabric.journal }
+    ensures armed { OnOk result.answer (NoneArmed (λ w. w.seat.node.replica) crew.workers.items result.crew.workers.items) }
     ensures stands { CrewStands K.law S.meaning result.crew.fabric.journal (λ w. w.seat) result.crew.workers.items }
     ensures size { length result.crew.workers.items ≡ length crew.workers.items }
 {
-    let CrewBack { crew, answer } = finish_each(crew, lines);
+    let CrewBack { crew, answer } = finish_each(crew, lines, faults);
     match answer {
-        Ok(ends) => finish_most(crew, ends, lines),
+        Ok(ends) => finish_most(crew, ends, lines, faults),
         Err(fault) => {
             CrewBack {
                 crew,

@@ -1,6 +1,7 @@
 //! The answers of all sessions, taken at one node.
 ghost use Rattle.std.specs.Prelude.{◌≡◌, ◌≢◌, ◌<◌, ◌+◌, length, OnOk};
 ghost use Rattle.node_lines.specs.Workers.{MayRun};
+ghost use Rattle.node_crew.specs.Arming.{NoneArmed};
 ghost use Rattle.node_crew.specs.Crews.{CrewStands};
 ghost use Rattle.run_closing.specs.Taking.{CrewTakes};
 
@@ -14,6 +15,7 @@ use node_workers::worker::Worker;
 use register_api::Register;
 use replica_api::replica::Replica;
 use script_text::asks::NamedLine;
+use script_text::faults::FaultLine;
 use turn_scopes::lone::Lone;
 use turn_scopes::terms::Terms;
 
@@ -22,11 +24,13 @@ fn take_own<L: Loglet, R: Register, K: Terms, S: Replica, C: Chooser>(
     crew: Crew<L, R, K, S, C>,
     most: Most,
     _lines: &[NamedLine],
+    _faults: &[FaultLine],
 ) -> CrewBack<L, R, K, S, C, ()>
     requires run { MayRun K.law }
-    requires takes { CrewTakes K.law S.meaning _lines.now most.node most.cursor most.node crew.fabric.journal crew.looks.items (λ w. w.seat) (λ w. w.desks.items) crew.workers.items }
-    ensures takes { OnOk result.answer (CrewTakes K.law S.meaning _lines.now most.node most.cursor (most.node + 1) result.crew.fabric.journal result.crew.looks.items (λ w. w.seat) (λ w. w.desks.items) result.crew.workers.items) }
+    requires takes { CrewTakes K.law S.meaning _lines.now _faults.now most.node most.cursor most.node crew.fabric.journal crew.looks.items (λ w. w.seat) (λ w. w.desks.items) crew.workers.items }
+    ensures takes { OnOk result.answer (CrewTakes K.law S.meaning _lines.now _faults.now most.node most.cursor (most.node + 1) result.crew.fabric.journal result.crew.looks.items (λ w. w.seat) (λ w. w.desks.items) result.crew.workers.items) }
     ensures journal { result.crew.fabric.journal ≡ crew.fabric.journal }
+    ensures armed { NoneArmed (λ w. w.seat.node.replica) crew.workers.items result.crew.workers.items }
     ensures stands { CrewStands K.law S.meaning result.crew.fabric.journal (λ w. w.seat) result.crew.workers.items }
     ensures size { length result.crew.workers.items ≡ length crew.workers.items }
 {
@@ -79,13 +83,15 @@ fn take_other<L: Loglet, R: Register, K: Terms, S: Replica, C: Chooser>(
     most: Most,
     k: usize,
     _lines: &[NamedLine],
+    _faults: &[FaultLine],
 ) -> CrewBack<L, R, K, S, C, ()>
     requires run { MayRun K.law }
     requires there { k < length crew.workers.items }
     requires other { most.node ≢ k }
-    requires takes { CrewTakes K.law S.meaning _lines.now most.node most.cursor k crew.fabric.journal crew.looks.items (λ w. w.seat) (λ w. w.desks.items) crew.workers.items }
-    ensures takes { OnOk result.answer (CrewTakes K.law S.meaning _lines.now most.node most.cursor (k + 1) result.crew.fabric.journal result.crew.looks.items (λ w. w.seat) (λ w. w.desks.items) result.crew.workers.items) }
+    requires takes { CrewTakes K.law S.meaning _lines.now _faults.now most.node most.cursor k crew.fabric.journal crew.looks.items (λ w. w.seat) (λ w. w.desks.items) crew.workers.items }
+    ensures takes { OnOk result.answer (CrewTakes K.law S.meaning _lines.now _faults.now most.node most.cursor (k + 1) result.crew.fabric.journal result.crew.looks.items (λ w. w.seat) (λ w. w.desks.items) result.crew.workers.items) }
     ensures journal { result.crew.fabric.journal ≡ crew.fabric.journal }
+    ensures armed { NoneArmed (λ w. w.seat.node.replica) crew.workers.items result.crew.workers.items }
     ensures stands { CrewStands K.law S.meaning result.crew.fabric.journal (λ w. w.seat) result.crew.workers.items }
     ensures size { length result.crew.workers.items ≡ length crew.workers.items }
 {
@@ -141,19 +147,21 @@ fn take_node<L: Loglet, R: Register, K: Terms, S: Replica, C: Chooser>(
     most: Most,
     k: usize,
     lines: &[NamedLine],
+    faults: &[FaultLine],
 ) -> CrewBack<L, R, K, S, C, ()>
     requires run { MayRun K.law }
     requires there { k < length crew.workers.items }
-    requires takes { CrewTakes K.law S.meaning lines.now most.node most.cursor k crew.fabric.journal crew.looks.items (λ w. w.seat) (λ w. w.desks.items) crew.workers.items }
-    ensures takes { OnOk result.answer (CrewTakes K.law S.meaning lines.now most.node most.cursor (k + 1) result.crew.fabric.journal result.crew.looks.items (λ w. w.seat) (λ w. w.desks.items) result.crew.workers.items) }
+    requires takes { CrewTakes K.law S.meaning lines.now faults.now most.node most.cursor k crew.fabric.journal crew.looks.items (λ w. w.seat) (λ w. w.desks.items) crew.workers.items }
+    ensures takes { OnOk result.answer (CrewTakes K.law S.meaning lines.now faults.now most.node most.cursor (k + 1) result.crew.fabric.journal result.crew.looks.items (λ w. w.seat) (λ w. w.desks.items) result.crew.workers.items) }
     ensures journal { result.crew.fabric.journal ≡ crew.fabric.journal }
+    ensures armed { NoneArmed (λ w. w.seat.node.replica) crew.workers.items result.crew.workers.items }
     ensures stands { CrewStands K.law S.meaning result.crew.fabric.journal (λ w. w.seat) result.crew.workers.items }
     ensures size { length result.crew.workers.items ≡ length crew.workers.items }
 {
     if most.node == k {
-        return take_own(crew, most, lines);
+        return take_own(crew, most, lines, faults);
     }
-    take_other(crew, most, k, lines)
+    take_other(crew, most, k, lines, faults)
 }
 
 /// The answers of all sessions, node by node, all taken at the one at `most`.
@@ -161,17 +169,19 @@ pub fn take_all_nodes<L: Loglet, R: Register, K: Terms, S: Replica, C: Chooser>(
     crew: Crew<L, R, K, S, C>,
     most: Most,
     lines: &[NamedLine],
+    faults: &[FaultLine],
 ) -> CrewBack<L, R, K, S, C, ()>
     requires run { MayRun K.law }
-    requires takes { CrewTakes K.law S.meaning lines.now most.node most.cursor 0 crew.fabric.journal crew.looks.items (λ w. w.seat) (λ w. w.desks.items) crew.workers.items }
-    ensures takes { OnOk result.answer (CrewTakes K.law S.meaning lines.now most.node most.cursor (length result.crew.workers.items) result.crew.fabric.journal result.crew.looks.items (λ w. w.seat) (λ w. w.desks.items) result.crew.workers.items) }
+    requires takes { CrewTakes K.law S.meaning lines.now faults.now most.node most.cursor 0 crew.fabric.journal crew.looks.items (λ w. w.seat) (λ w. w.desks.items) crew.workers.items }
+    ensures takes { OnOk result.answer (CrewTakes K.law S.meaning lines.now faults.now most.node most.cursor (length result.crew.workers.items) result.crew.fabric.journal result.crew.looks.items (λ w. w.seat) (λ w. w.desks.items) result.crew.workers.items) }
     ensures journal { result.crew.fabric.journal ≡ crew.fabric.journal }
+    ensures armed { NoneArmed (λ w. w.seat.node.replica) crew.workers.items result.crew.workers.items }
     ensures stands { CrewStands K.law S.meaning result.crew.fabric.journal (λ w. w.seat) result.crew.workers.items }
     ensures size { length result.crew.workers.items ≡ length crew.workers.items }
 {
     let mut crew = crew;
     for k in 0..crew.workers.len() {
-        let CrewBack { crew: now, answer } = take_node(crew, most, k, lines);
+        let CrewBack { crew: now, answer } = take_node(crew, most, k, lines, faults);
         crew = now;
         match answer {
             Ok(()) => {}

@@ -1,3 +1,4 @@
+pub mod Faultless
 pub mod Homes
 pub mod ScriptLines
 pub mod Shelves

@@ -334,7 +334,7 @@ untrimmed lines told nodes trim items each asked =
     unasked lines trim (list_any (is_reported trim items) told && each_node nodes (λ a. asks_to_leave a.line.asks || is_reported trim items a) told) each asked
 
 -- where every line has its own answer, each line that extends the chain did, until the shelf had no loglet left
-segments_made : (lines : List NamedLine) (told : Told) (yard : Shown) (shelf : ℕ) → AllByRecursion (λ l. AddsOrExtends l.asks) lines → AllByRecursion IsOfFirst lines → length yard.cells ≡ shelf → Fits lines told yard → all_answered told.rows ≡ true
+segments_made : (lines : List NamedLine) (told : Told) (yard : Shown) (shelf : ℕ) → AllByRecursion (λ l. AddsOrExtends l.asks) lines → AllByRecursion IsOfFirst lines → length yard.cells ≡ shelf → Fits lines [] told yard → all_answered told.rows ≡ true
     → GoesByRows told.chain told.rows → All (λ s. s.id < length yard.cells) told.chain.segments → length told.chain.segments ≡ min shelf (1 + count_by extends lines)
 segments_made lines told yard shelf each first cells fits own goes within =
     let grown = goes.segments (untrimmed lines (told_of lines told) (length yard.disks) told.chain.trim (items_of told.chain yard.cells) each fits.trims.allowed) in
@@ -357,7 +357,7 @@ segments_made lines told yard shelf each first cells fits own goes within =
 abbrev lines_made : Plan → ℕ → List NamedLine
 lines_made plan count = lines_of (made_lines plan.seed count plan.nodes)
 
-counts_lines : (plan : Plan) (count : ℕ) (yard : Shown) (told : Told) → count ≤ 15000 → Fits (lines_made plan count) told yard
+counts_lines : (plan : Plan) (count : ℕ) (yard : Shown) (told : Told) → count ≤ 15000 → Fits (lines_made plan count) [] told yard
     → (IsCalm yard → length told.chain.segments ≡ min (length plan.shelf) (1 + count_by extends (lines_made plan count))) → CountsMade plan count yard told (totals_of (lines_made plan count) told)
 counts_lines plan count yard told few fits grown =
     let lines = lines_made plan count in
@@ -374,13 +374,13 @@ counts_lines plan count yard told few fits grown =
 
 -- of a run of what was made
 pub counts_made : (plan : Plan) (count : ℕ) (left : Option (List ℕ)) (yard : Shown) (told : Told) (script : List Line) → IsPlan plan → plan.task ≡ task.Make count → ComesFrom plan.task plan left script
-    → length yard.cells ≡ length plan.shelf → RunTold (lines_of script) yard told → CountsMade plan count yard told (totals_of (lines_of script) told)
+    → length yard.cells ≡ length plan.shelf → RunTold (lines_of script) [] yard told → CountsMade plan count yard told (totals_of (lines_of script) told)
 counts_made plan count left yard told script sound make comes shelf ran =
     let is : script ≡ made_lines plan.seed count plan.nodes = subst (λ (t : Task). ComesFrom t plan left script) make comes in
     let few = subst IsTask make sound.task in
     let lines : lines_of script ≡ lines_made plan count = ap lines_of is in
     subst (λ ls. CountsMade plan count yard told (totals_of ls told)) (sym lines)
-    (counts_lines plan count yard told few.1 (subst (λ ls. Fits ls told yard) lines ran.fits)
+    (counts_lines plan count yard told few.1 (subst (λ ls. Fits ls [] told yard) lines ran.fits)
     (λ calm. segments_made (lines_of script) told yard (length plan.shelf) (subst (AllByRecursion (λ (l : NamedLine). AddsOrExtends l.asks)) (sym lines) (all_from (λ (l : NamedLine). AddsOrExtends l.asks) (lines_made plan count) (all-made plan.seed count plan.nodes)))
     (subst (AllByRecursion IsOfFirst) (sym lines) (all_from IsOfFirst (lines_made plan count) (all-first plan.seed count plan.nodes))) shelf ran.fits (ran.answered calm) (ran.extended calm) ran.shelved
     ∙ ap (λ ls. min (length plan.shelf) (1 + count_by extends ls)) lines))

@@ -143,7 +143,7 @@ calm-closed plan left yard end told refused text h calm e = absurd h
 -- what a script told is composed of it, if memory sufficed
 pub composes-told : (plan : Plan) (script : List Line) (lines : List NamedLine) (yard : Shown) (answer : Result Composed Failure) (told : Result Told AllocError)
     → lines ≡ lines_of script → length yard.cells ≡ length plan.shelf → IfOk answer (λ c. IfOk told (Tells plan lines c)) → IfOk answer (λ c. (t : Told) × (told ≡ Ok t))
-    → IfOk told (RunTold lines yard) → IfOk answer (ComposesRun plan script yard)
+    → IfOk told (RunTold lines [] yard) → IfOk answer (ComposesRun plan script yard)
 composes-told plan script lines yard (Err e) told same size tells some ran = tt
 composes-told plan script lines yard (Ok c) (Err e) same size tells some ran = absurd (none some.1)
   where
@@ -152,7 +152,7 @@ composes-told plan script lines yard (Ok c) (Err e) same size tells some ran = a
 composes-told plan script lines yard (Ok c) (Ok t) same size tells some ran = record {
   told = t;
   tells = subst (λ ls. Tells plan ls c t) same tells;
-  ran = subst (λ ls. RunTold ls yard t) same ran;
+  ran = subst (λ ls. RunTold ls [] yard t) same ran;
   shelf = size;
 }
 

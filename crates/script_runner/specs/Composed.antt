@@ -1,5 +1,5 @@
 -- What a composed text says.
-use Rattle.std.specs.Prelude.{◌≡◌, ℕ, List, length, Option, Some, None, if◌then◌else◌}
+use Rattle.std.specs.Prelude.{◌≡◌, ℕ, List, [], length, Option, Some, None, if◌then◌else◌}
 use Rattle.script_text.specs.declared.line.Line.{Line}
 use Rattle.script_text.specs.declared.asks.NamedLine.{NamedLine}
 use Rattle.script_text.specs.Lines.{lines_of}
@@ -26,7 +26,7 @@ pub record Tells (plan : Plan) (lines : List NamedLine) (c : Composed) (told : T
 pub record ComposesRun (plan : Plan) (script : List Line) (yard : Shown) (c : Composed) : Type 0 where
   pub told : Told
   pub tells : Tells plan (lines_of script) c told
-  pub ran : RunTold (lines_of script) yard told
+  pub ran : RunTold (lines_of script) [] yard told
   pub shelf : length yard.cells ≡ length plan.shelf
 
 -- this is what the plan has to be put

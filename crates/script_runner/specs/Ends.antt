@@ -1,5 +1,5 @@
 -- How a run ends: what stands behind each status.
-use Rattle.std.specs.Prelude.{◌≡◌, ◌<◌, ℕ, true, if◌then◌else◌, List, length, All, Option, Some, None, IfSome, IsSomeAnd, Ok, Err, map, take}
+use Rattle.std.specs.Prelude.{◌≡◌, ◌<◌, ℕ, true, if◌then◌else◌, List, [], length, All, Option, Some, None, IfSome, IsSomeAnd, Ok, Err, map, take}
 use Rattle.fabric_core.specs.Log.{virtual_tail}
 use Rattle.outside_ends.specs.Faults.{Rose}
 use Rattle.outside_ends.specs.Sinks.{Gains}
@@ -45,7 +45,7 @@ pub record Ran (plan : Plan) (left : Option (List ℕ)) (yard : Shown) (told : T
   pub plan_is : IsPlan plan
   pub script : List Line
   pub comes : ComesFrom plan.task plan left script
-  pub fits : Fits (lines_of script) told yard
+  pub fits : Fits (lines_of script) [] told yard
   pub made : (count : ℕ) → plan.task ≡ task.Make count → CountsMade plan count yard told (totals_of (lines_of script) told)
   pub answered : IsCalm yard → all_answered told.rows ≡ true
   pub whole : IsCalm yard → told.end ≡ virtual_tail told.chain yard.cells

@@ -1,5 +1,5 @@
 //! A script is run over any loglets, register, engines and disks.
-ghost use Rattle.std.specs.Prelude.{◌≡◌, ◌<◌, ◌≤◌, IfOk, length, map};
+ghost use Rattle.std.specs.Prelude.{◌≡◌, ◌<◌, ◌≤◌, [], IfOk, length, map};
 ghost use Rattle.register_api.specs.View as view;
 ghost use Rattle.crew_run.specs.Running.{RunTold};
 ghost use Rattle.script_runner.specs.Fresh.{AreFresh, AreFreshNodes, shown};
@@ -27,7 +27,7 @@ pub struct Played<L: Loglet, R: Register, E: Layers, D: Disk, C: Chooser> {
     pub told: Result<Told, AllocError>,
 }
 
-/// Plays a script's lines: the nodes' stores are opened, the lines are run, and the nodes are taken apart again.
+/// Plays a script's lines, which break and mend nothing: the nodes' stores are opened, the lines are run, and the nodes are taken apart again.
 pub fn play<
     W: Threads + Wait + Sync,
     L: Loglet + Send,
@@ -50,7 +50,7 @@ pub fn play<
     requires most { length yard.shelf.items ≤ 64 }
     requires eight { length yard.nodes.items ≤ 8 }
     requires script { CanPlay (length yard.nodes.items) lines.now }
-    ensures told { IfOk result.told (RunTold lines.now (shown L.view R.view (λ k. (D.view k.disk).faults) result.yard.shelf.items result.yard.register result.yard.nodes.items)) }
+    ensures told { IfOk result.told (RunTold lines.now [] (shown L.view R.view (λ k. (D.view k.disk).faults) result.yard.shelf.items result.yard.register result.yard.nodes.items)) }
     ensures shelf { length result.yard.shelf.items ≡ length yard.shelf.items }
     ensures nodes { length result.yard.nodes.items ≡ length yard.nodes.items }
     ensures engines { map (λ k. E.kinds k.engines) result.yard.nodes.items ≡ map (λ k. E.kinds k.engines) yard.nodes.items }
@@ -69,7 +69,7 @@ pub fn play<
                 register,
                 nodes,
                 told,
-            } = run_lines(rt, alloc, shelf, register, nodes, lines, gate);
+            } = run_lines(rt, alloc, shelf, register, nodes, lines, &[], gate);
             close_all(nodes, &mut parts);
             Played {
                 yard: Yard {

@@ -41,7 +41,7 @@ pub(crate) fn show_replacements(rt: &HostRuntime, input: &[&str]) -> anyhow::Res
             ),
             (
                 "another node's line overtook each that moved",
-                overtaken_by_others(lines, told),
+                overtaken_by_others(lines, &[], told),
             ),
             (
                 "a spent shelf has no loglet behind the chain's last",

@@ -34,8 +34,8 @@ returns-in-Ok-new-clause-rests g c =
     let q = c.seat_all-workers in
     let size = as_long (λ b. b.replica) (λ n. n.replica) c.in-Ok-prepare_all.berths.items a.nodes.now.items c.in-Ok-prepare_all.ensures.replicas in
     let size' = as_long (λ w. w.seat.node.replica) (λ b. r.shows b.replica) q.result.items c.in-Ok-prepare_all.berths.items q.ensures.replicas in
-    subst (λ j. CrewRests p.law r.meaning a.lines.now 0 0 j c.in-Ok.looks.items (λ w. w.seat) (λ w. w.desks.items) q.result.items) (sym (ap (λ (f : FabricView). f.journal) c.in-Ok-new.ensures.ok))
-    (crew_rests p.law a.lines.now c.in-Ok.looks.items c.in-Ok.ensures.size c.in-Ok.ensures.none r.meaning c.requires.lines.0 (λ w. w.seat) (λ w. w.desks.items) q.result.items
+    subst (λ j. CrewRests p.law r.meaning a.lines.now a._faults.now 0 0 j c.in-Ok.looks.items (λ w. w.seat) (λ w. w.desks.items) q.result.items) (sym (ap (λ (f : FabricView). f.journal) c.in-Ok-new.ensures.ok))
+    (crew_rests p.law a.lines.now a._faults.now c.in-Ok.looks.items c.in-Ok.ensures.size c.in-Ok.ensures.none r.meaning c.requires.lines.0 (λ w. w.seat) (λ w. w.desks.items) q.result.items
     (subst (AreLines a.lines.now c.requires.lines.0) (sym (size' ∙ size)) c.requires.lines.1)
     (subst (λ k. AreNewWorkers (λ who. record p.law { may = Sends who p.law.may [] [] }) r.meaning k (λ w. w.seat) (λ w. w.desks.items) q.result.items) (sym size') q.ensures.workers))
 

@@ -1,4 +1,4 @@
-use Rattle.std.proofs.Common.{sym, subst}
+use Rattle.std.proofs.Common.{sym, ◌∙◌, subst}
 use Rattle.turn_scopes.specs.Floors.{FloorIs}
 use Rattle.node_lines.proofs.Widening.{grows-both}
 use Rattle.node_workers.proofs.Ok.{in_ok, ok_then, on_ok}
@@ -6,6 +6,7 @@ use Rattle.node_crew.proofs.Ok.{on_ok as on_then}
 use Rattle.run_closing.specs.Finishing.{IsMost, PassesBut, PlaysLast}
 use Rattle.run_closing.proofs.Finishing.{last_all, most_before, passes_all, passes_both, plays_all}
 use Rattle.run_closing.proofs.Ok.{if_ok2, if_ok2_then}
+use Rattle.node_crew.proofs.Arming.{none_then}
 use Rattle.run_closing.proofs.finish.finish_all.Goals as goal
 
 pub finish_most-requires-clause-floor : goal.finish_most-requires-clause-floor
@@ -85,3 +86,13 @@ returns-in-Ok-clause-last g c =
 pub returns-in-Ok-clause-grows : goal.returns-in-Ok-clause-grows
 returns-in-Ok-clause-grows g c =
     grows-both c.args.crew.fabric.journal c.finish_each-crew.result.crew.fabric.journal c.finish_most.result.crew.fabric.journal c.finish_each-crew.ensures.grows c.finish_most.ensures.grows
+
+pub returns-in-Ok-clause-quiet : goal.returns-in-Ok-clause-quiet
+returns-in-Ok-clause-quiet g c = c.finish_most.ensures.quiet ∙ c.finish_each-crew.ensures.quiet
+
+pub returns-in-Ok-clause-armed : goal.returns-in-Ok-clause-armed
+returns-in-Ok-clause-armed g c =
+    let m = c.finish_each-crew.result.crew in
+    let q = c.finish_most in
+    on_then q.result.answer q.ensures.armed (λ last.
+    none_then (λ w. w.seat.node.replica) c.args.crew.workers.items m.workers.items q.result.crew.workers.items (on_ok _ c.in-Ok.is c.finish_each-crew.ensures.armed) last)

@@ -9,6 +9,7 @@ use Rattle.node_course.proofs.Moments.{grows_not}
 use Rattle.run_closing.specs.Finishing.{HasFinished, HasMost}
 use Rattle.run_closing.proofs.Seeing.{sees_most, some_next}
 use Rattle.run_closing.proofs.Finishing.{rests_stand, some_node, most_first, most_next, most_stays, none_passed, passes_next, waits_next, left_next, some_stays, plays_next}
+use Rattle.node_crew.proofs.Arming.{all_same, none_then}
 use Rattle.run_closing.proofs.finish.finish_each.Goals as goal
 
 pub loop-k-init : goal.loop-k-init
@@ -22,13 +23,15 @@ loop-k-init g c =
       looks = refl;
       rests = c.requires.rests;
       grows = grows_not a.fabric.journal;
+      quiet = refl;
+      armed = all_same (λ w. w.seat.node.replica) a.workers.items;
       waits = λ j high. refl;
       passes = none_passed c.args.lines.now a.looks.items (λ w. w.seat) a.workers.items;
       plays = λ j w low at stays. absurd (omega (arith, low));
       left = λ passed j w low at. absurd (omega (arith, low));
       some = λ e. absurd (true≢false e);
       most = most_first (λ w. w.seat) a.workers.items
-          (some_node p.law r.meaning c.args.lines.now (λ w. w.seat) (λ w. w.desks.items) a.workers.items (length c.args.lines.now) c.requires.rests.0 a.fabric.journal a.looks.items c.requires.rests.1);
+          (some_node p.law r.meaning c.args.lines.now c.args.faults.now (λ w. w.seat) (λ w. w.desks.items) a.workers.items (length c.args.lines.now) c.requires.rests.0 a.fabric.journal a.looks.items c.requires.rests.1);
       sees = λ e. absurd (true≢false e);
     }
 
@@ -64,7 +67,9 @@ loop-k-preserved g c =
       size = q.ensures.size ∙ l.invariant.size;
       rests = rests;
       grows = grows-both c.args.crew.fabric.journal l.crew.fabric.journal q.result.crew.fabric.journal l.invariant.grows q.ensures.grows;
+      quiet = q.ensures.quiet ∙ l.invariant.quiet;
       looks = q.ensures.looks ∙ l.invariant.looks;
+      armed = none_then (λ w. w.seat.node.replica) first l.crew.workers.items q.result.crew.workers.items l.invariant.armed (on_ok _ c.in-Ok.is q.ensures.armed);
       waits = waits_next lines looks (λ w. w.seat) first l.crew.workers.items q.result.crew.workers.items l.k l.crew.fabric.journal q.result.crew.fabric.journal c.in-Ok.reach f l.invariant.waits;
       passes = passes_next lines looks (λ w. w.seat) first l.crew.workers.items q.result.crew.workers.items l.k l.crew.fabric.journal q.result.crew.fabric.journal c.in-Ok.reach f l.invariant.passes;
       plays = plays_next lines looks (λ w. w.seat) first l.crew.workers.items q.result.crew.workers.items l.k l.crew.fabric.journal q.result.crew.fabric.journal c.in-Ok.reach f c.args.crew.fabric.journal l.invariant.grows q.ensures.grows wait l.invariant.plays;
@@ -107,10 +112,13 @@ returns-clause-stands g c =
     let p = g.K.Terms in
     let r = g.S.Replica in
     let l = c.loop-k in
-    rests_stand p.law r.meaning c.args.lines.now (λ w. w.seat) (λ w. w.desks.items) l.crew.workers.items (length c.args.lines.now) l.invariant.rests.0 l.crew.fabric.journal l.crew.looks.items l.invariant.rests.1
+    rests_stand p.law r.meaning c.args.lines.now c.args.faults.now (λ w. w.seat) (λ w. w.desks.items) l.crew.workers.items (length c.args.lines.now) l.invariant.rests.0 l.crew.fabric.journal l.crew.looks.items l.invariant.rests.1
 
 pub returns-in-Err-clause-grows : goal.returns-in-Err-clause-grows
 returns-in-Err-clause-grows g c =
     let l = c.loop-k in
     let q = c.finish_node-now in
     grows-both c.args.crew.fabric.journal l.crew.fabric.journal q.result.crew.fabric.journal l.invariant.grows q.ensures.grows
+
+pub returns-in-Err-clause-quiet : goal.returns-in-Err-clause-quiet
+returns-in-Err-clause-quiet g c = c.finish_node-now.ensures.quiet ∙ c.loop-k.invariant.quiet

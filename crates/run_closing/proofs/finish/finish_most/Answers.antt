@@ -3,6 +3,7 @@ use Rattle.node_workers.proofs.Ok.{in_ok}
 use Rattle.node_course.proofs.Moments.{grows_not}
 use Rattle.run_closing.specs.Finishing.{HasMost}
 use Rattle.run_closing.proofs.Finishing.{is_most, last_plays, most_last, passes_last, passes_still, plays_last}
+use Rattle.node_crew.proofs.Arming.{all_same}
 use Rattle.run_closing.proofs.finish.finish_most.Goals as goal
 
 pub returns-in-Ok-clause-most : goal.returns-in-Ok-clause-most
@@ -52,3 +53,6 @@ returns-in-Ok-clause-plays g c =
 
 pub returns-then-not-ends-clause-plays : goal.returns-then-not-ends-clause-plays
 returns-then-not-ends-clause-plays g c = λ passed. absurd (true≢false (sym c.if-not-ends.true ∙ ap not passed))
+
+pub returns-then-not-ends-clause-armed : goal.returns-then-not-ends-clause-armed
+returns-then-not-ends-clause-armed g c = all_same (λ w. w.seat.node.replica) c.args.crew.workers.items

@@ -1,4 +1,4 @@
-use Rattle.std.proofs.Common.{◌≡◌, ◌<◌, ◌∙◌, length, sym, subst, arith}
+use Rattle.std.proofs.Common.{◌≡◌, ◌<◌, ◌∙◌, [], length, sym, subst, arith}
 use Rattle.std.proofs.lemmas.List.{length-map}
 use Rattle.std.specs.Prelude.{All}
 use Rattle.script_text.specs.Lines.{lines_of}
@@ -20,7 +20,7 @@ pub compose_told-answer-requires : goal.compose_told-answer-requires
 compose_told-answer-requires g c =
     let back = c.play-yard.result.yard in
     let size = length-map back.shelf.items g.L.Loglet.view in
-    if_ok (RunTold c.args.lines.now (shown g.L.Loglet.view g.R.Register.view (λ k. (g.D.Disk.view k.disk).faults) back.shelf.items back.register back.nodes.items))
+    if_ok (RunTold c.args.lines.now [] (shown g.L.Loglet.view g.R.Register.view (λ k. (g.D.Disk.view k.disk).faults) back.shelf.items back.register back.nodes.items))
     (λ t. All (λ s. s.id < length c.args.plan.now.shelf) t.chain.segments)
     (λ t h k d low. let id = h.shelved k d low in omega (arith, id, size, c.play-yard.ensures.shelf, length-map c.args.yard.shelf.items g.L.Loglet.view, c.requires.fresh.as_many))
     c.play-yard.result.told c.play-yard.ensures.told

@@ -1,10 +1,14 @@
-use Rattle.std.proofs.Common.{◌∙◌}
+use Rattle.std.proofs.Common.{◌∙◌, length, map}
 use Rattle.node_course.proofs.Lines.{at_get}
+use Rattle.script_runner.proofs.Faultless.{no_fault_lines}
 use Rattle.script_runner.proofs.Shelves.{each_fresh, kinds_of_engines, same_kinds}
 use Rattle.script_runner.proofs.over.play.Goals as goal
 
 pub run_lines-shelf-requires-clause-fresh : goal.run_lines-shelf-requires-clause-fresh
 run_lines-shelf-requires-clause-fresh g c κs within = each_fresh g.L.Loglet.view c.args.yard.shelf.items c.requires.cells
+
+pub run_lines-shelf-requires-clause-faults : goal.run_lines-shelf-requires-clause-faults
+run_lines-shelf-requires-clause-faults g c κs within = no_fault_lines c.args.lines.now (map (λ v. v.servers) (map g.L.Loglet.view c.args.yard.shelf.items)) (length c.in-Ok.nodes.items)
 
 pub run_lines-shelf-requires-clause-nodes : goal.run_lines-shelf-requires-clause-nodes
 run_lines-shelf-requires-clause-nodes g c κs within = λ j n at. record { fresh = c.in-Ok.ensures.fresh j n at; counted = at_get _ c.in-Ok.nodes.items j n c.in-Ok.ensures.counted at }
