@@ -247,7 +247,7 @@ fn play_nodes<
 /// node plays its lines, beside the others, and number 0 has as many old messages come again as the fault lines ask for; then all of them have
 /// seen the same again: the journal of before, and what was made in the phase.
 ///
-/// Cost: that of the lines and of the phase's end at each node, side by side; a thread for each node with lines but one, and one where old messages
+/// Cost: that of the lines and of the phase's end at each node, side by side; a thread for each node with a part in it but one, and one where old messages
 /// come again; for each node a look at the lines, and one more; for each fault line a turn and two looks.
 pub fn play_phase<
     'a,

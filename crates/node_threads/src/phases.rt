@@ -138,7 +138,7 @@ fn play_in<
 /// Plays all lines: the nodes side by side over the fabric under a lock, in threads, as `play_phase` has them, and beside them what the fault lines ask for
 /// of the fabric. At a phase's end all are joined.
 ///
-/// Cost: that of the lines and of the phases' ends, of the nodes side by side; for each phase with lines a thread for each node with lines but
+/// Cost: that of the lines and of the phases' ends, of the nodes side by side; for each phase a thread for each node with a part in it but
 /// one, and a look at the lines for each node; what `play_phase` says of fault lines. A turn has the lock as long as its one event takes.
 pub fn play_phases<
     L: Loglet + Send,

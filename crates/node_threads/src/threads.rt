@@ -1,4 +1,4 @@
-//! The nodes of a phase work: those that have lines beside one another, each in a thread of its own.
+//! The nodes of a phase work: those that have a part in it beside one another, each in a thread of its own.
 ghost use Rattle.std.specs.Prelude.{◌≡◌, ◌<◌, ◌≤◌, length};
 ghost use denote.Param.Send.{IsSend, IsSync};
 ghost use Rattle.node_lines.specs.Workers.{MayRun};
@@ -10,6 +10,7 @@ ghost use Rattle.node_threads.specs.Stirring.{Stirred};
 
 use crate::post::Post;
 use crate::stirrer::Stirrer;
+use delos_types::numbers::NodeId;
 use fate_words::chooser::Chooser;
 use gate_points::Gate;
 use legal_journal::rules::Rules;
@@ -21,18 +22,30 @@ use node_workers::worker::Worker;
 use register_api::Register;
 use replica_api::replica::Replica;
 use script_text::asks::NamedLine;
+use script_text::faults::FaultAsk;
 use std::alloc::Global;
 use std::sync::Wait;
 use std::thread;
 use std::thread::Threads;
 
-/// The nodes that have lines from `from` up to `to`: bit n for node n.
-fn at_work(lines: &[NamedLine], from: usize, to: usize) -> u32
-    requires { to ≤ length lines.now }
+/// Bit n for node n.
+fn bit_of(node: NodeId) -> u32 {
+    1u32.wrapping_shl(u32::from(node.number()))
+}
+
+/// The nodes that have lines from `from` up to `to`, or stops of the phase: bit n for node n.
+fn at_work(lines: &[NamedLine], from: usize, to: usize, faults: &PhaseFaults) -> u32
+    requires lines { to ≤ length lines.now }
+    requires faults { faults.now.to ≤ length faults.now.lines.now }
 {
     let mut nodes = 0;
     for i in from..to {
-        nodes |= 1u32.wrapping_shl(u32::from(lines[i].node.number()));
+        nodes |= bit_of(lines[i].node);
+    }
+    for k in faults.from..faults.to {
+        if let FaultAsk::Stop { node, after: _ } = faults.lines[k].asks {
+            nodes |= bit_of(node);
+        }
     }
     nodes
 }
@@ -226,7 +239,7 @@ pub(crate) fn run_all<
     ensures stirrer { stirrer.new.access.who ≡ 0 }
     ensures stirred { Stirred (strays_from stirrer.old.cells 0 stirrer.old.turns) stirrer.old.access.seen stirrer.new.access.seen stirrer.new.sufficed }
 {
-    let nodes = at_work(lines, from, to);
+    let nodes = at_work(lines, from, to, faults);
     let work = |post: &mut Post<L, R, P, B, W, Worker<S, C>>|
         requires { MayRun P.law × (from ≤ to) × (to ≤ length lines.now) × MaySendAll P.law.may lines.now × AreOfPhase faults.now.lines.now faults.now.phase faults.now.from faults.now.to × MayWork P.law S.meaning lines.now faults.now.lines.now faults.now.phase from to (λ w. w.seat) (λ w. w.desks.items) post.now }
         ensures { Worked P.law S.meaning lines.entry.now faults.entry.now.lines.now faults.entry.now.phase from to (λ w. w.seat) (λ w. w.desks.items) post.entry.now post.exit.now }
